@@ -1,0 +1,8 @@
+//! The top of the store: where requests come from and replies go to, and the calls that the program makes.
+#![tactic(auto)]
+
+mod sink;
+mod source;
+
+pub use sink::Sink;
+pub use source::Source;

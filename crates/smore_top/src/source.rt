@@ -1,0 +1,23 @@
+ghost use Rattle.std.specs.Prelude.{◌≡◌, ℕ, ◌<◌, ◌≤◌, List, [], length, Option, IfSome, IfOk, OnErr};
+ghost use Rattle.zone_bay.specs.Outside.{HasCause, Told};
+ghost use Rattle.smore_top.specs.Streams.{Takes};
+
+use zone_bay::Failed;
+
+/// Where bytes come from.
+pub trait Source {
+    /// The bytes that are left, where they are told.
+    ghost left: { Self → Option (List ℕ) };
+
+    /// How often it has failed. It never falls.
+    ghost faults: { Self → ℕ };
+
+    /// Takes bytes to the front of `out`, and answers how many: any number from 1, or 0 where none is left or `out`
+    /// has no room. Where it fails, none is taken.
+    fn take(&mut self, out: &mut [u8]) -> Result<usize, Failed>
+        ensures within { IfOk result (λ count. count ≤ length out.new) }
+        ensures taken { IfOk result (λ count. Told (left self.old) (left self.new) (Takes count out.new)) }
+        ensures end { IfOk result (λ count. count ≡ 0 → 0 < length out.new → IfSome (left self.old) (λ left. left ≡ [])) }
+        ensures err { OnErr result (left self.new ≡ left self.old) }
+        ensures cause { HasCause result (faults self.old) (faults self.new) };
+}
