@@ -1,0 +1,32 @@
+ghost use Rattle.std.specs.Prelude.{ℕ, Option};
+ghost use Rattle.object_machine.specs.State.{State, Step};
+ghost use Rattle.object_machine.specs.History.{ToldSteps};
+
+use crate::{Op, Reply};
+
+/// A call and its answer, with the number of its caller.
+#[derive(Debug, Drop)]
+pub struct Entry {
+    pub caller: u64,
+    pub op: Op,
+    pub reply: Reply,
+}
+
+/// What answers calls one at a time.
+pub trait Machine {
+    ghost use Rattle.object_machine.specs.declared.op.Op.{Op};
+    ghost use Rattle.object_machine.specs.declared.reply.Reply.{Reply};
+
+    /// The state, where it is told.
+    ghost state: { Self → Option State };
+
+    /// The machine's own moves: what it may answer, and what it is then.
+    ghost moves: { Self → Op → Reply → Self → Type 0 };
+
+    /// Answers a call by a move.
+    fn step(&mut self, op: Op) -> Reply
+        ensures { moves self.old op result self.new };
+
+    /// Each move is a step of the store machine.
+    ghost is_step: { (old new : Self) (op : Op) (reply : Reply) → moves old op reply new → ToldSteps (state old) op reply (state new) };
+}
