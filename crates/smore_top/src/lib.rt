@@ -1,6 +1,7 @@
 //! The top of the store: where requests come from and replies go to, and the calls that the program makes.
 #![tactic(auto)]
 
+mod blocks;
 mod sink;
 mod source;
 

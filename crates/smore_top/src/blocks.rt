@@ -1,0 +1,56 @@
+//! An object as blocks in zone 2 of drive 0: `docs/FORMATS.md`, "Blocks".
+ghost use Rattle.std.specs.Prelude.{◌≡◌, ℕ, ◌+◌, ◌*◌, ◌<◌, ◌≤◌, ◌^◌, length, IfSome, IfOk, OnOk};
+ghost use Rattle.zone_bay.specs.Bay.{AreCallsOn};
+ghost use Rattle.smore_top.specs.Blocks.{blocks_of, data_blocks, object_at};
+
+use smore_base::CONTENT_BYTES;
+use std::alloc::{AllocError, Global};
+use zone_bay::{Bay, Failed};
+
+const BLOCK: usize = 512;
+
+const CONTENT: usize = 511;
+
+// The tag of a block that has bytes of an object.
+const DATA: u8 = 2;
+
+/// The object as blocks.
+pub(crate) fn data_blocks(alloc: Global, object: &[u8]) -> Result<Vec<u8>, AllocError>
+    requires { length object.now < 2 ^ 32 }
+    ensures { IfOk result (λ blocks. blocks.items ≡ data_blocks object.now) }
+{
+    let count = object.len().div_ceil(CONTENT);
+    let mut written = Vec::with_capacity(alloc, BLOCK * count)?;
+    let mut rest = object;
+    for _i in 0..count {
+        let (content, after) = rest.split_at(rest.len().min(CONTENT));
+        written.push(DATA)?;
+        written.extend_from_slice(content)?;
+        written.resize(written.len() + (CONTENT - content.len()), 0)?;
+        rest = after;
+    }
+    Ok(written)
+}
+
+/// Fills `out` with the object that begins at block `first` of zone 2 of drive 0.
+pub(crate) fn read_object<B: Bay>(bay: &mut B, first: u32, out: &mut [u8]) -> Result<(), Failed>
+    requires drive { 0 < (B.shape bay.old).devices }
+    requires zone { 2 < (B.shape bay.old).zones }
+    requires few { 512 * (first + blocks_of (length out.old)) < 2 ^ 32 }
+    requires written { IfSome (B.contents bay.old)
+        (λ held. 512 * (first + blocks_of (length out.old)) ≤ length (held 0 2)) }
+    ensures object { IfSome (B.contents bay.old)
+        (λ held. OnOk result (out.new ≡ object_at (held 0 2) first (length out.old))) }
+    ensures length { length out.new ≡ length out.old }
+    ensures same { B.contents bay.new ≡ B.contents bay.old }
+    ensures calls { AreCallsOn B.shape B.moment B.faults 0 bay.old bay.new result }
+{
+    let count = out.len().div_ceil(CONTENT);
+    for i in 0..count {
+        let from = CONTENT * i;
+        let to = out.len().min(from + CONTENT);
+        let at = BLOCK * (first as usize + i) + 1;
+        bay.read(0, 2, at as u32, &mut out[from..to])?;
+    }
+    Ok(())
+}
