@@ -1,9 +1,11 @@
 -- One block more, of a loop that writes an object's blocks or reads them.
-use Rattle.std.proofs.Common.{◌≡◌, ℕ, suc, ◌+◌, ◌-◌, ◌*◌, ◌<◌, ◌≤◌, min, List, [], ◌∷◌, ◌++◌, length, take, drop, replicate, arith, refl, ap, sym, ◌∙◌, append_assoc, length-append}
+use Rattle.std.proofs.Common.{◌≡◌, ℕ, suc, ◌+◌, ◌-◌, ◌*◌, ◌<◌, ◌≤◌, min, List, [], ◌∷◌, ◌++◌, length, take, drop, replicate, Option, IfSome, arith, ap, sym, ◌∙◌, append_assoc, length-append}
 use Rattle.std.proofs.lemmas.List.{take_all, take_min, drop_min, drop-drop, length-take, length-drop}
 use Rattle.std.proofs.lemmas.Slice.{take-put_mid}
 use borrow.Rule.Slice.PartMut.{put_mid}
-use Rattle.smore_top.specs.Blocks.{data_block, blocks_from, content_from}
+use Rattle.zone_bay.specs.Bay.{Contents, Reads}
+use Rattle.zone_bay.proofs.Tells.{IfSome-both}
+use Rattle.smore_top.specs.Blocks.{data_block, blocks_from, content_from, object_at}
 
 one_left : (count i : ℕ) → i < count → count - i ≡ suc (count - (i + 1))
 one_left count i below = omega arith
@@ -50,12 +52,12 @@ filled_more zone out part target count first i to below within end size is so_fa
     let long = length-put_mid (511 * i) (to - 511 * i) out part (omega arith) size in
     let at_end : min (511 * (i + 1)) (length new) ≡ to = omega (arith, long) in
     let front : take (511 * (i + 1)) new ≡ take (511 * i) out ++ part =
-      sym (take_min (511 * (i + 1)) new) ∙ ap (λ n. take n new) at_end ∙ take-put_mid (511 * i) (to - 511 * i) out part to (omega arith) within in
+    sym (take_min (511 * (i + 1)) new) ∙ ap (λ n. take n new) at_end ∙ take-put_mid (511 * i) (to - 511 * i) out part to (omega arith) within in
     let here = drop (512 * (first + i)) zone in
     let part_is : part ≡ take (min 511 (length out - 511 * i)) (drop 1 here) =
-      is ∙ ap (λ n. take n (drop (512 * (first + i) + 1) zone)) (omega arith) ∙ ap (λ (l : List ℕ). take (min 511 (length out - 511 * i)) l) (sym (drop-drop 1 (512 * (first + i)) zone)) in
+    is ∙ ap (λ n. take n (drop (512 * (first + i) + 1) zone)) (omega arith) ∙ ap (λ (l : List ℕ). take (min 511 (length out - 511 * i)) l) (sym (drop-drop 1 (512 * (first + i)) zone)) in
     let next : drop (512 * (first + (i + 1))) zone ≡ drop 512 here =
-      ap (λ n. drop n zone) (omega arith) ∙ sym (drop-drop 512 (512 * (first + i)) zone) in
+    ap (λ n. drop n zone) (omega arith) ∙ sym (drop-drop 512 (512 * (first + i)) zone) in
     let left : length out - 511 * (i + 1) ≡ length out - 511 * i - 511 = omega arith in
     let later = content_from (count - (i + 1)) (drop 512 here) (length out - 511 * i - 511) in
     ap (λ (l : List ℕ). l ++ content_from (count - (i + 1)) (drop (512 * (first + (i + 1))) zone) (length out - 511 * (i + 1))) front
@@ -65,3 +67,15 @@ filled_more zone out part target count first i to below within end size is so_fa
     ∙ ap (λ (l : List ℕ). take (511 * i) out ++ (l ++ later)) part_is
     ∙ ap (λ (l : List ℕ). take (511 * i) out ++ l) (sym (content_from-more count i here (length out - 511 * i) below))
     ∙ so_far
+
+-- the same where the contents are told
+pub filled_told : (contents : Option Contents) (out part : List ℕ) (count first i to : ℕ) → i < count → 511 * i ≤ length out → to ≡ min (length out) (511 * i + 511) → length part ≡ to - 511 * i
+    → IfSome contents (λ held. Reads (held 0 2) (512 * (first + i) + 1) part)
+    → IfSome contents (λ held. take (511 * i) out ++ content_from (count - i) (drop (512 * (first + i)) (held 0 2)) (length out - 511 * i) ≡ object_at (held 0 2) first (length out))
+    → IfSome contents (λ held. take (511 * (i + 1)) (put_mid (511 * i) (to - 511 * i) out part) ++ content_from (count - (i + 1)) (drop (512 * (first + (i + 1))) (held 0 2)) (length (put_mid (511 * i) (to - 511 * i) out part) - 511 * (i + 1)) ≡ object_at (held 0 2) first (length (put_mid (511 * i) (to - 511 * i) out part)))
+filled_told contents out part count first i to below within end size reads so_far =
+    let long = length-put_mid (511 * i) (to - 511 * i) out part (omega arith) size in
+    IfSome-both contents _ _ _ reads so_far (λ held read before.
+    ap (λ n. take (511 * (i + 1)) (put_mid (511 * i) (to - 511 * i) out part) ++ content_from (count - (i + 1)) (drop (512 * (first + (i + 1))) (held 0 2)) (n - 511 * (i + 1))) long
+    ∙ filled_more (held 0 2) out part (object_at (held 0 2) first (length out)) count first i to below within end size read before
+    ∙ ap (object_at (held 0 2) first) (sym long))

@@ -1,6 +1,6 @@
 //! An object as blocks in zone 2 of drive 0: `docs/FORMATS.md`, "Blocks".
-ghost use Rattle.std.specs.Prelude.{◌≡◌, ℕ, ◌+◌, ◌*◌, ◌<◌, ◌≤◌, ◌^◌, length, IfSome, IfOk, OnOk};
-ghost use Rattle.zone_bay.specs.Bay.{AreCallsOn};
+ghost use Rattle.std.specs.Prelude.{◌≡◌, ℕ, ◌+◌, ◌*◌, ◌<◌, ◌≤◌, ◌^◌, length, IfSome, IfOk, OnOk, OnErr};
+ghost use Rattle.zone_bay.specs.Bay.{AreCallsOn, Becomes, appended, BecomesInPart};
 ghost use Rattle.smore_top.specs.Blocks.{blocks_of, data_blocks, object_at};
 
 use smore_base::CONTENT_BYTES;
@@ -30,6 +30,20 @@ pub(crate) fn data_blocks(alloc: Global, object: &[u8]) -> Result<Vec<u8>, Alloc
         rest = after;
     }
     Ok(written)
+}
+
+/// Puts the bytes at the end of zone 2 of drive 0, and makes them firm.
+pub(crate) fn append_firm<B: Bay>(bay: &mut B, bytes: &[u8]) -> Result<(), Failed>
+    requires drive { 0 < (B.shape bay.old).devices }
+    requires zone { 2 < (B.shape bay.old).zones }
+    requires fits { IfSome (B.contents bay.old)
+        (λ held. length (held 0 2) + length bytes.now ≤ 512 * (B.shape bay.old).blocks) }
+    ensures ok { OnOk result (Becomes (appended 0 2 bytes.now) (B.contents bay.old) (B.contents bay.new)) }
+    ensures err { OnErr result (BecomesInPart 0 2 bytes.now (B.contents bay.old) (B.contents bay.new)) }
+    ensures calls { AreCallsOn B.shape B.moment B.faults 0 bay.old bay.new result }
+{
+    bay.append(0, 2, bytes)?;
+    bay.flush(0)
 }
 
 /// Fills `out` with the object that begins at block `first` of zone 2 of drive 0.

@@ -2,8 +2,11 @@
 #![tactic(auto)]
 
 mod blocks;
+mod newest;
 mod sink;
 mod source;
+mod store_core;
+mod stored;
 
 pub use sink::Sink;
 pub use source::Source;
