@@ -39,7 +39,7 @@ written_more before after content rest left target count i below so_far more fro
     ∙ ap (λ (l : List ℕ). before ++ l) (sym (blocks_from-more count i rest below))
     ∙ so_far
 
-length-put_mid : (a k : ℕ) (out part : List ℕ) → a + k ≤ length out → length part ≡ k → length (put_mid a k out part) ≡ length out
+pub length-put_mid : (a k : ℕ) (out part : List ℕ) → a + k ≤ length out → length part ≡ k → length (put_mid a k out part) ≡ length out
 length-put_mid a k out part within size = simp (length-append, length-take, length-drop) (omega arith)
 
 -- with one block more filled, what is filled and what the other blocks have is the object

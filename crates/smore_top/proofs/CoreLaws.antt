@@ -7,10 +7,10 @@ use Rattle.std.proofs.lemmas.Option.{none-some, same_Some}
 use Rattle.std.specs.List.{All}
 use Rattle.smore_top.specs.declared.stored.Stored.{Stored}
 use Rattle.smore_top.specs.Index.{IsKept}
-use Rattle.zone_bay.specs.Outside.{Told}
-use Rattle.zone_bay.specs.Bay.{Shape, Contents, Becomes, BecomesInPart, appended, AreCallsOn}
+use Rattle.zone_bay.specs.Outside.{Told, Rose}
+use Rattle.zone_bay.specs.Bay.{Shape, Contents, Becomes, BecomesInPart, appended, AreCallsOn, with_zone}
 use Rattle.object_machine.specs.declared.reply.Reply.{Reply}
-use Rattle.smore_top.specs.CoreFacts.{HoldsUsed, WritesZone2, IsCalm, Works}
+use Rattle.smore_top.specs.CoreFacts.{HoldsUsed, WritesZone2, IsCalm, GoesOn, Works}
 
 -- to write what is there changes nothing
 same_there : (held : Contents) (d z : ℕ) (a b : Bool) → (a ≡ true → d ≡ 0) → (b ≡ true → z ≡ 2) → held d z ≡ cond (a && b) (held 0 2) (held d z)
@@ -32,47 +32,77 @@ zone2_appended bytes (Some held) after is = (held 0 2 ++ bytes, is)
 pub zone2_in_part : (bytes : List ℕ) (before after : Option Contents) → BecomesInPart 0 2 bytes before after → WritesZone2 before after
 zone2_in_part bytes before after part = zone2_appended (take part.0 bytes) before after part.2
 
+-- written there again
+twice : (first second : List ℕ) (held : Contents) (d z : ℕ) (b : Bool) → cond b second (cond b first (held d z)) ≡ cond b second (held d z)
+twice first second held d z true = refl
+twice first second held d z false = refl
+
+pub zone2_then : (a b c : Option Contents) → WritesZone2 a b → WritesZone2 b c → WritesZone2 a c
+zone2_then None b c first then = (then.0, then.1 ∙ ap (option_map (with_zone 0 2 then.0)) first.1)
+zone2_then (Some held) b c first then = (then.0, then.1 ∙ ap (option_map (with_zone 0 2 then.0)) first.1 ∙ ap (λ (h : Contents). Some h) (λ i d z. twice first.0 then.0 held d z ((d == 0) && (z == 2)) i))
+
 module _ {B : Type 0} (shape : B → Shape) (moment : B → ℕ) (faults : B → ℕ → ℕ) (contents : B → Option Contents) where
-  -- no call was made
-  pub works_none : (lost : Bool) (bay : B) (reply : Reply) → Works shape moment faults contents lost lost bay bay reply
-  works_none lost bay reply = record {
+  pub goes_nowhere : (lost : Bool) (bay : B) → GoesOn shape moment faults contents lost lost bay bay
+  goes_nowhere lost bay = record {
     same_shape = refl;
     later = omega arith;
     keeps = omega arith;
     others = λ d h. refl;
     cause = λ working is. absurd (true≢false (sym is ∙ working));
     stays = λ h. h;
-    untouched = λ h. refl;
-    calm = λ h. refl;
     zone = zone2_same (contents bay);
   }
+
+  lost_between : (first_lost mid_lost last_lost : Bool) (first mid last : B) → GoesOn shape moment faults contents first_lost mid_lost first mid → GoesOn shape moment faults contents mid_lost last_lost mid last → first_lost ≡ false → last_lost ≡ true → Rose (faults first 0) (faults last 0)
+  lost_between first_lost true last_lost first mid last before after working is = λ below. omega (arith, before.cause working refl (omega (arith, after.keeps, below)), after.keeps)
+  lost_between first_lost false last_lost first mid last before after working is = λ below. omega (arith, before.keeps, after.cause refl is below)
+
+  -- steps after steps
+  pub goes_further : (first_lost mid_lost last_lost : Bool) (first mid last : B) → GoesOn shape moment faults contents first_lost mid_lost first mid → GoesOn shape moment faults contents mid_lost last_lost mid last → GoesOn shape moment faults contents first_lost last_lost first last
+  goes_further first_lost mid_lost last_lost first mid last before after = record {
+    same_shape = after.same_shape ∙ before.same_shape;
+    later = omega (arith, before.later, after.later);
+    keeps = omega (arith, before.keeps, after.keeps);
+    others = λ d h. after.others d h ∙ before.others d h;
+    cause = λ working is. lost_between first_lost mid_lost last_lost first mid last before after working is;
+    stays = λ h. after.stays (before.stays h);
+    zone = zone2_then (contents first) (contents mid) (contents last) before.zone after.zone;
+  }
+
+  -- no call was made
+  pub works_none : (lost : Bool) (bay : B) (reply : Reply) → Works shape moment faults contents lost lost bay bay reply
+  works_none lost bay reply = record { goes_on = goes_nowhere lost bay; untouched = λ h. refl; calm = λ h. refl }
 
   -- calls that were answered
   pub works_ok : {T E : Type 0} (x : T) (lost : Bool) (old new : B) (reply : Reply) → AreCallsOn {E = E} shape moment faults 0 old new (Ok x) → lost ≡ false → (IsCalm reply → ⊥) → WritesZone2 (contents old) (contents new) → Works shape moment faults contents lost lost old new reply
   works_ok x lost old new reply calls working busy zone = record {
-    same_shape = calls.same_shape;
-    later = calls.later;
-    keeps = calls.cause.keeps;
-    others = calls.others;
-    cause = λ w is. absurd (true≢false (sym is ∙ w));
-    stays = λ h. h;
+    goes_on = record {
+      same_shape = calls.same_shape;
+      later = calls.later;
+      keeps = calls.cause.keeps;
+      others = calls.others;
+      cause = λ w is. absurd (true≢false (sym is ∙ w));
+      stays = λ h. h;
+      zone = zone;
+    };
     untouched = λ is. absurd (true≢false (sym is ∙ working));
     calm = λ h. absurd (busy h);
-    zone = zone;
   }
 
   -- a call that failed
   pub works_err : {T E : Type 0} (e : E) (lost : Bool) (old new : B) (reply : Reply) → AreCallsOn {T = T} shape moment faults 0 old new (Err e) → lost ≡ false → (IsCalm reply → ⊥) → WritesZone2 (contents old) (contents new) → Works shape moment faults contents lost true old new reply
   works_err e lost old new reply calls working busy zone = record {
-    same_shape = calls.same_shape;
-    later = calls.later;
-    keeps = calls.cause.keeps;
-    others = calls.others;
-    cause = λ w is. calls.cause.err;
-    stays = λ h. refl;
+    goes_on = record {
+      same_shape = calls.same_shape;
+      later = calls.later;
+      keeps = calls.cause.keeps;
+      others = calls.others;
+      cause = λ w is. calls.cause.err;
+      stays = λ h. refl;
+      zone = zone;
+    };
     untouched = λ is. absurd (true≢false (sym is ∙ working));
     calm = λ h. absurd (busy h);
-    zone = zone;
   }
 
 -- A move where the contents are told, by what became of them.

@@ -4,3 +4,6 @@ pub mod BlockLaws
 pub mod ObjectLaws
 pub mod MoveLaws
 pub mod CoreLaws
+pub mod FillSteps
+pub mod FrameLaws
+pub mod ReadSteps

@@ -29,16 +29,19 @@ IsCalm (Object bytes) = ⊥
 IsCalm (Refused (TooFewFragments set missing)) = ⊥
 IsCalm reply = ⊤
 
--- What a step does beside its answer.
-pub record Works {B : Type 0} (shape : B → Shape) (moment : B → ℕ) (faults : B → ℕ → ℕ) (contents : B → Option Contents) (old_lost new_lost : Bool) (old new : B) (reply : Reply) : Type 0 where
+-- What steps do to the bay: calls on drive 0 alone, which is lost only by a fault in them, and stays lost.
+pub record GoesOn {B : Type 0} (shape : B → Shape) (moment : B → ℕ) (faults : B → ℕ → ℕ) (contents : B → Option Contents) (old_lost new_lost : Bool) (old new : B) : Type 0 where
   pub same_shape : shape new ≡ shape old
   pub later : moment old ≤ moment new
   pub keeps : faults old 0 ≤ faults new 0
   pub others : (d : ℕ) → (d ≡ 0 → ⊥) → faults new d ≡ faults old d
-  -- drive 0 is lost only by a fault in this step, and stays lost
   pub cause : old_lost ≡ false → new_lost ≡ true → Rose (faults old 0) (faults new 0)
   pub stays : old_lost ≡ true → new_lost ≡ true
+  pub zone : WritesZone2 (contents old) (contents new)
+
+-- What a step does beside its answer.
+pub record Works {B : Type 0} (shape : B → Shape) (moment : B → ℕ) (faults : B → ℕ → ℕ) (contents : B → Option Contents) (old_lost new_lost : Bool) (old new : B) (reply : Reply) : Type 0 where
+  pub goes_on : GoesOn shape moment faults contents old_lost new_lost old new
   -- a lost drive gets no call, and an answer that needs none makes none
   pub untouched : old_lost ≡ true → new ≡ old
   pub calm : IsCalm reply → new ≡ old
-  pub zone : WritesZone2 (contents old) (contents new)

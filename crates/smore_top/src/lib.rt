@@ -3,10 +3,14 @@
 
 mod blocks;
 mod newest;
+mod request;
+mod reply_frame;
+mod request_frame;
 mod sink;
 mod source;
 mod store_core;
 mod stored;
 
+pub use request::Request;
 pub use sink::Sink;
 pub use source::Source;

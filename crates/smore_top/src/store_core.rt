@@ -2,6 +2,7 @@ ghost use Rattle.std.specs.Prelude.{◌≡◌, ℕ, ◌-◌, ◌<◌, ◌≤◌,
 ghost use Rattle.std.specs.Option.{ForSome};
 ghost use Rattle.smore_base.specs.Geometry.{IsWithinLimits};
 ghost use Rattle.zone_bay.specs.Outside.{Told};
+ghost use Rattle.smore_top.specs.Frames.{reply_body, max_body};
 ghost use Rattle.smore_top.specs.CoreFacts.{IsOfBay, HoldsUsed, Works};
 ghost use Rattle.smore_top.specs.Index.{IsKept, HasEntry};
 ghost use Rattle.smore_top.specs.Store.{Cause, Move, told_store};
@@ -49,6 +50,7 @@ impl<B: Bay> Core<B> {
             (told_store self.new.index.items self.new.used self.new.is_lost (B.contents self.new.bay))
             (λ s t. Move self.old.geometry.blocks self.old.geometry.shard s op result t) }
         ensures same { self.new.geometry ≡ self.old.geometry }
+        ensures spelled { length (reply_body result) ≤ max_body }
     {
         match op {
             Op::Put { name, object } => self.put(&name, &object),
@@ -63,6 +65,7 @@ impl<B: Bay> Core<B> {
             (told_store self.new.index.items self.new.used self.new.is_lost (B.contents self.new.bay))
             (λ s t. Move self.old.geometry.blocks self.old.geometry.shard s (Op.Put name.now object.now) result t) }
         ensures same { self.new.geometry ≡ self.old.geometry }
+        ensures spelled { length (reply_body result) ≤ max_body }
     {
         let name = match Name::new(name.as_slice()) {
             Ok(name) => name,
@@ -113,6 +116,7 @@ impl<B: Bay> Core<B> {
             (told_store self.new.index.items self.new.used self.new.is_lost (B.contents self.new.bay))
             (λ s t. Move self.old.geometry.blocks self.old.geometry.shard s (Op.Get name.now) result t) }
         ensures same { self.new.geometry ≡ self.old.geometry }
+        ensures spelled { length (reply_body result) ≤ max_body }
     {
         if let Err(NameBad { length }) = Name::new(name.as_slice()) {
             return refused(Refusal::NameBad { length });

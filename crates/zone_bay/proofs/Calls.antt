@@ -5,7 +5,7 @@ use Rattle.zone_bay.specs.Outside.{HasCause}
 use Rattle.zone_bay.specs.Bay.{Shape, IsCallOn, AreCallsOn}
 
 -- a count of faults that stayed, and then one more call
-cause_later : {T E T' E' : Type 0} (x : T) (r : Result T' E') (a b c : ℕ) → HasCause {E = E} (Ok x) a b → HasCause r b c → HasCause r a c
+pub cause_later : {T E T' E' : Type 0} (x : T) (r : Result T' E') (a b c : ℕ) → HasCause {E = E} (Ok x) a b → HasCause r b c → HasCause r a c
 cause_later x (Ok y) a b c first then = record { keeps = omega (arith, first.keeps, then.keeps); ok = then.ok ∙ first.ok; err = tt }
 cause_later x (Err e) a b c first then = record { keeps = omega (arith, first.keeps, then.keeps); ok = tt; err = λ below. omega (arith, first.keeps, then.err below) }
 

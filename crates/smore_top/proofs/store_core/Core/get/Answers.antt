@@ -71,3 +71,12 @@ returns-in-Ok-read_object-clause-move_ g c =
     told_same _ _ _ _ _ c.in-Ok-read_object.ensures.same (λ held is.
     get_object _ _ _ _ (held 0 2) _ (c.args.self.now.zone held is) c.args.self.now.kept _ _ c.in-Some.entry.now c.args.self.now.limits.shard_to c.if-self.false (found g (goal.at.returns-in-Ok-read_object-clause-move_ g c).In-Some)
     (whole ∙ (rw is at c.in-Ok-read_object.ensures.object) ∙ ap (object_at (held 0 2) c.in-Some.entry.now.first) given) (ap length whole ∙ long))
+
+pub returns-in-Ok-read_object-clause-spelled : goal.returns-in-Ok-read_object-clause-spelled
+returns-in-Ok-read_object-clause-spelled g c =
+    let out = c.read_object.new.out in
+    let filled : length out ≡ c.in-Ok.bytes.len = omega (arith, c.in-Ok-read_object.ensures.length, c.deref_mut.ensures.len, c.in-Ok.ensures.len) in
+    let long : length out ≡ c.in-Some.entry.now.length = omega (arith, filled, c.in-Ok.ensures.len) in
+    let whole : c.from.result ≡ out = c.from.ensures ∙ take_at out _ _ filled in
+    let kept = fits g (goal.at.returns-in-Ok-read_object-clause-spelled g c).In-Some in
+    omega (arith, ap length whole, long, kept.1, c.args.self.now.limits.shard_to)
