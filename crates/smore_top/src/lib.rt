@@ -1,8 +1,13 @@
 //! The top of the store: where requests come from and replies go to, and the calls that the program makes.
 #![tactic(auto)]
 
+mod calls;
+mod memory_sink;
+mod memory_source;
 mod sink;
 mod source;
 
+pub use memory_sink::MemorySink;
+pub use memory_source::MemorySource;
 pub use sink::Sink;
 pub use source::Source;
