@@ -6,8 +6,10 @@ mod memory_sink;
 mod memory_source;
 mod sink;
 mod source;
+mod words;
 
 pub use memory_sink::MemorySink;
 pub use memory_source::MemorySource;
 pub use sink::Sink;
 pub use source::Source;
+pub use words::Words;
