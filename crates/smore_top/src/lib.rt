@@ -2,12 +2,14 @@
 #![tactic(auto)]
 
 mod calls;
+mod label;
 mod memory_sink;
 mod memory_source;
 mod sink;
 mod source;
 mod words;
 
+pub use label::{Label, read_label, write_label};
 pub use memory_sink::MemorySink;
 pub use memory_source::MemorySource;
 pub use sink::Sink;
