@@ -49,7 +49,7 @@ four_fit a b c d p q r s (suc (suc (suc zero))) = s
 four_fit a b c d p q r s (suc (suc (suc (suc i)))) = omega arith
 
 -- one byte more is spread out
-spread_one : (bytes : List ℕ) → 0 < length bytes → bytes ≡ get_or bytes 0 0 ∷ drop 1 bytes
+pub spread_one : (bytes : List ℕ) → 0 < length bytes → bytes ≡ get_or bytes 0 0 ∷ drop 1 bytes
 spread_one [] h = absurd (omega arith)
 spread_one (x ∷ xs) h = refl
 

@@ -36,18 +36,32 @@ label_block l = 4 ∷ (spelling_of l ++ replicate 472 0)
 abbrev pub label_of : ℕ → Geometry → List ℕ → Label
 label_of device geometry array = record { version = 1; device = device; geometry = geometry; array = array }
 
+-- the drives, zones and blocks are those of a bay of this shape, whose last device is the flash
+pub record IsOfShape (shape : Shape) (g : Geometry) : Type 0 where
+  pub drives : g.drives + 1 ≡ shape.devices
+  pub zones : g.zones ≡ shape.zones
+  pub blocks : g.blocks ≡ shape.blocks
+
 -- the label is that of a device of a bay of this shape
 pub record IsLabelOf (shape : Shape) (device : ℕ) (l : Label) : Type 0 where
   pub device_in : device < shape.devices
   pub version : l.version ≡ 1
   pub number : l.device ≡ device
+  pub shaped : IsOfShape shape l.geometry
   pub within : IsWithinLimits l.geometry
-  pub drives : l.geometry.drives + 1 ≡ shape.devices
-  pub zones : l.geometry.zones ≡ shape.zones
-  pub blocks : l.geometry.blocks ≡ shape.blocks
   pub array : length l.array ≡ 16
+
+-- the first block of the device is that of the label
+abbrev pub BeginsWith : Contents → ℕ → Label → Type 0
+BeginsWith held device l = take 512 (held device 0) ≡ label_block l
+
+abbrev pub BeginsWithNone : Contents → ℕ → Type 0
+BeginsWithNone held device = (l : Label) → IsLabel l → BeginsWith held device l → ⊥
 
 -- a device begins with its label of this geometry and this array
 pub record HasLabel (shape : Shape) (held : Contents) (device : ℕ) (geometry : Geometry) (array : List ℕ) : Type 0 where
   pub ours : IsLabelOf shape device (label_of device geometry array)
-  pub begins : take 512 (held device 0) ≡ label_block (label_of device geometry array)
+  pub begins : BeginsWith held device (label_of device geometry array)
+
+abbrev pub HasNoLabel : Shape → Contents → ℕ → Type 0
+HasNoLabel shape held device = (geometry : Geometry) (array : List ℕ) → HasLabel shape held device geometry array → ⊥

@@ -1,6 +1,7 @@
 //! The top of the store: where requests come from and replies go to, and the calls that the program makes.
 #![tactic(auto)]
 
+mod bay_label;
 mod calls;
 mod label;
 mod memory_sink;
