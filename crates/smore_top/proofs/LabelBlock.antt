@@ -1,13 +1,12 @@
 -- A block holds a label exactly where it is the block of that label, and a label has one block alone.
-use Rattle.std.proofs.Common.{◌≡◌, ℕ, suc, zero, ◌+◌, ◌-◌, ◌<◌, ◌≤◌, List, [], ◌∷◌, ◌++◌, length, get_or, take, drop, replicate, Option, Some, None, refl, sym, ap, subst, ◌∙◌, arith}
+use Rattle.std.proofs.Common.{◌≡◌, ℕ, suc, ◌+◌, ◌-◌, ◌<◌, List, ◌∷◌, ◌++◌, length, get_or, take, drop, replicate, Option, Some, None, refl, sym, ap, subst, ◌∙◌, arith}
 use Rattle.std.specs.Prelude.{IfSome, IfNone}
 use Rattle.std.specs.Int.{w16, w32, to_be_bytes, from_be_bytes}
 use Rattle.std.proofs.lemmas.List.{take_at, drop_at, take-append-drop, take_rest, length-drop, length-take, length-replicate, length-append}
 use Rattle.std.proofs.lemmas.Nat.{from_be_bytes-to_be_bytes_2, from_be_bytes-to_be_bytes_4}
-use Rattle.smore_base.specs.declared.geometry.Geometry.{Geometry}
 use Rattle.zone_bay.specs.Bay.{Shape, Contents}
 use Rattle.smore_top.specs.declared.label.Label.{Label}
-use Rattle.smore_top.specs.Label.{IsLabel, IsOfShape, IsLabelOf, BeginsWith, BeginsWithNone, HasLabel, HasNoLabel, fields_of, spelling_of, label_block, label_of}
+use Rattle.smore_top.specs.Label.{IsLabel, IsLabelOf, BeginsWith, BeginsWithNone, HasNoLabel, fields_of, spelling_of, label_block, label_of}
 use Rattle.smore_top.proofs.LabelBytes.{spread_one, length-spelling_of}
 
 -- ---- a tag, a text and zeros
@@ -105,24 +104,7 @@ IsLabelOf-fits shape device l small is = record {
   array = is.array;
 }
 
--- a label of this bay is that of its own geometry and array
-label_of-own : (shape : Shape) (device : ℕ) (l : Label) → IsLabelOf shape device l → l ≡ label_of device l.geometry l.array
-label_of-own shape device l is = λ i. record { version = is.version i; device = is.number i; geometry = l.geometry; array = l.array }
-
-pub HasLabel-found : (contents : Option Contents) (shape : Shape) (device : ℕ) (l : Label) → IsLabelOf shape device l → IfSome contents (λ held. BeginsWith held device l) → IfSome contents (λ held. HasLabel shape held device l.geometry l.array)
-HasLabel-found None shape device l is begins = tt
-HasLabel-found (Some held) shape device l is begins =
-    let own = label_of-own shape device l is in
-    record { ours = subst (λ (m : Label). IsLabelOf shape device m) own is; begins = begins ∙ ap label_block own }
-
-pub HasNoLabel-out : (contents : Option Contents) (shape : Shape) (device : ℕ) → (device < shape.devices → 4 ≤ shape.zones → ⊥) → IfSome contents (λ held. HasNoLabel shape held device)
-HasNoLabel-out None shape device out = tt
-HasNoLabel-out (Some held) shape device out = λ geometry array has. out has.ours.device_in (omega (arith, has.ours.within.zones_from, has.ours.shaped.zones))
-
-pub HasNoLabel-none : (contents : Option Contents) (shape : Shape) (device : ℕ) → device < 256 → IfSome contents (λ held. BeginsWithNone held device) → IfSome contents (λ held. HasNoLabel shape held device)
-HasNoLabel-none None shape device small none = tt
-HasNoLabel-none (Some held) shape device small none = λ geometry array has. none (label_of device geometry array) (IsLabelOf-fits shape device _ small has.ours) has.begins
-
+-- the device begins with another label
 pub HasNoLabel-other : (contents : Option Contents) (shape : Shape) (device : ℕ) (l : Label) → device < 256 → IsLabel l → (IsLabelOf shape device l → ⊥) → IfSome contents (λ held. BeginsWith held device l) → IfSome contents (λ held. HasNoLabel shape held device)
 HasNoLabel-other None shape device l small fits other begins = tt
 HasNoLabel-other (Some held) shape device l small fits other begins = λ geometry array has.

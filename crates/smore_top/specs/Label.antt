@@ -37,17 +37,17 @@ abbrev pub label_of : ℕ → Geometry → List ℕ → Label
 label_of device geometry array = record { version = 1; device = device; geometry = geometry; array = array }
 
 -- the drives, zones and blocks are those of a bay of this shape, whose last device is the flash
-pub record IsOfShape (shape : Shape) (g : Geometry) : Type 0 where
-  pub drives : g.drives + 1 ≡ shape.devices
-  pub zones : g.zones ≡ shape.zones
-  pub blocks : g.blocks ≡ shape.blocks
+pub record IsOfBay (shape : Shape) (geometry : Geometry) : Type 0 where
+  pub devices : shape.devices ≡ geometry.drives + 1
+  pub zones : shape.zones ≡ geometry.zones
+  pub blocks : shape.blocks ≡ geometry.blocks
 
 -- the label is that of a device of a bay of this shape
 pub record IsLabelOf (shape : Shape) (device : ℕ) (l : Label) : Type 0 where
   pub device_in : device < shape.devices
   pub version : l.version ≡ 1
   pub number : l.device ≡ device
-  pub shaped : IsOfShape shape l.geometry
+  pub shaped : IsOfBay shape l.geometry
   pub within : IsWithinLimits l.geometry
   pub array : length l.array ≡ 16
 

@@ -1,7 +1,7 @@
 ghost use Rattle.std.specs.Prelude.{◌≡◌, ◌<◌, ◌≤◌, ◌↔◌, length, take, replicate, IsTrue, MatchOption, IfSome, IfNone, IfOk};
 ghost use Rattle.zone_bay.specs.Bay.{AreCallsOn};
 ghost use Rattle.smore_top.specs.declared.label.Label.{Label as LabelSeen};
-ghost use Rattle.smore_top.specs.Label.{IsLabel, IsOfShape, IsLabelOf, BeginsWith, BeginsWithNone, HasLabel, HasNoLabel, label_block};
+ghost use Rattle.smore_top.specs.Label.{IsLabel, IsOfBay, IsLabelOf, BeginsWith, BeginsWithNone, HasLabel, HasNoLabel, label_block};
 
 use crate::label::{LABEL_BYTES, Label, read_label};
 use smore_base::{BLOCK_BYTES, Geometry};
@@ -33,9 +33,9 @@ fn label_in_block(block: &[u8]) -> Option<Label>
 }
 
 /// Whether the geometry is one of a bay of this shape.
-fn is_of_shape(geometry: &Geometry, devices: u8, zones: u16, blocks: u32) -> bool
+fn is_of_bay(geometry: &Geometry, devices: u8, zones: u16, blocks: u32) -> bool
     requires { 0 < devices }
-    ensures { IsTrue result ↔ IsOfShape (record { devices = devices; zones = zones; blocks = blocks }) geometry.now }
+    ensures { IsTrue result ↔ IsOfBay (record { devices = devices; zones = zones; blocks = blocks }) geometry.now }
 {
     geometry.drives == devices - 1 && geometry.zones == zones && geometry.blocks == blocks
 }
@@ -49,7 +49,7 @@ fn is_label_of(label: &Label, device: u8, devices: u8, zones: u16, blocks: u32) 
         return false;
     }
     let geometry = &label.geometry;
-    is_of_shape(geometry, devices, zones, blocks) && geometry.check().is_ok()
+    is_of_bay(geometry, devices, zones, blocks) && geometry.check().is_ok()
 }
 
 /// The first block of the device, or `None` where it holds fewer bytes.

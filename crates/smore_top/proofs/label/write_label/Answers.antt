@@ -1,4 +1,4 @@
-use Rattle.std.proofs.Common.{refl, arith, ◌∙◌, rules}
+use Rattle.std.proofs.Common.{refl, ◌∙◌, rules}
 use Rattle.smore_top.specs.Label.{spelling_of}
 use Rattle.smore_top.proofs.LabelBytes.{three_parts}
 use Rattle.smore_top.proofs.label.write_label.Goals as goal
