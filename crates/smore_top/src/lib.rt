@@ -20,3 +20,6 @@ pub use sink::Sink;
 pub use source::Source;
 pub use store_core::Core;
 pub use words::Words;
+
+#[cfg(test)]
+mod format_tests;
