@@ -7,12 +7,6 @@ use Rattle.object_machine.specs.declared.reply.Reply.{Reply}
 use Rattle.object_machine.specs.declared.reply.Reply.TheVariants.{Done, Object, Refused}
 use Rattle.object_machine.specs.declared.reply.Refusal.TheVariants.{TooFewFragments}
 
--- the geometry is that of the bay, whose last device is the flash
-pub record IsOfBay (shape : Shape) (geometry : Geometry) : Type 0 where
-  pub devices : shape.devices ≡ geometry.drives + 1
-  pub zones : shape.zones ≡ geometry.zones
-  pub blocks : shape.blocks ≡ geometry.blocks
-
 -- the zone has the used blocks, and while the drive isn't lost nothing else
 pub record HoldsUsed (used : ℕ) (lost : Bool) (zone : List ℕ) : Type 0 where
   pub at_least : 512 * used ≤ length zone

@@ -1,16 +1,31 @@
 //! The top of the store: where requests come from and replies go to, and the calls that the program makes.
 #![tactic(auto)]
 
+mod bay_label;
 mod blocks;
+mod calls;
+mod format;
+mod label;
+mod memory_sink;
+mod memory_source;
 mod newest;
-mod request;
 mod reply_frame;
+mod request;
 mod request_frame;
 mod sink;
 mod source;
 mod store_core;
 mod stored;
+mod words;
 
+pub use format::FormatFailed;
+pub use label::{Label, read_label, write_label};
+pub use memory_sink::MemorySink;
+pub use memory_source::MemorySource;
+pub use reply_frame::write_reply;
 pub use request::Request;
 pub use sink::Sink;
 pub use source::Source;
+pub use store_core::Core;
+pub use words::Words;
+

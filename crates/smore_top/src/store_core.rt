@@ -3,7 +3,8 @@ ghost use Rattle.std.specs.Option.{ForSome};
 ghost use Rattle.smore_base.specs.Geometry.{IsWithinLimits};
 ghost use Rattle.zone_bay.specs.Outside.{Told};
 ghost use Rattle.smore_top.specs.Frames.{reply_body, max_body};
-ghost use Rattle.smore_top.specs.CoreFacts.{IsOfBay, HoldsUsed, Works};
+ghost use Rattle.smore_top.specs.CoreFacts.{HoldsUsed, Works};
+ghost use Rattle.smore_top.specs.Label.{IsOfBay};
 ghost use Rattle.smore_top.specs.Index.{IsKept, HasEntry};
 ghost use Rattle.smore_top.specs.Store.{Cause, Move, told_store};
 

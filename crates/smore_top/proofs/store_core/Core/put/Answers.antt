@@ -2,7 +2,7 @@ use Rattle.std.proofs.Common.{◌≡◌, ◌+◌, ◌-◌, ◌*◌, ◌≤◌, �
 use Rattle.zone_bay.specs.Bay.{appended}
 use Rattle.smore_base.specs.Name.{IsName}
 use Rattle.smore_top.specs.Blocks.{blocks_of, data_blocks}
-use Rattle.smore_top.specs.CoreFacts.{IsOfBay}
+use Rattle.smore_top.specs.Label.{IsOfBay}
 use Rattle.std.specs.List.{All}
 use Rattle.std.proofs.lemmas.List.Elements.{All-push}
 use Rattle.smore_top.specs.declared.stored.Stored.{Stored}

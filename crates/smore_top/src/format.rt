@@ -1,0 +1,106 @@
+ghost use Rattle.std.specs.Prelude.{◌≡◌, ◌≢◌, ℕ, ◌*◌, ◌<◌, ◌≤◌, [], length, IfSome, IfErr, OnOk};
+ghost use Rattle.smore_base.specs.Geometry.{IsWithinLimits};
+ghost use Rattle.zone_bay.specs.Outside.{Rose, Told};
+ghost use Rattle.zone_bay.specs.Bay.{AreCallsOn};
+ghost use Rattle.smore_top.specs.Label.{IsOfBay, label_of, label_block};
+ghost use Rattle.smore_top.specs.Format.{ZoneHolds, AreEmptied, DeviceHolds, IsFormatted};
+
+use crate::bay_label::{LABEL_TAG, VERSION};
+use crate::label::{LABEL_BYTES, Label, write_label};
+use crate::store_core::Core;
+use smore_base::Geometry;
+use thiserror::Error;
+use zone_bay::{Bay, Failed};
+
+/// A call on this device failed while the array was formatted.
+#[derive(Clone, Copy, Debug, PartialEq, Eq, Error)]
+#[error("device {device} failed while it was formatted")]
+pub struct FormatFailed {
+    pub device: u8,
+}
+
+fn block_of(label: &Label) -> [u8; 512]
+    ensures { result ≡ label_block label.now }
+{
+    let mut block = [0; 512];
+    block[0] = LABEL_TAG;
+    write_label(label, &mut block[1..1 + LABEL_BYTES]);
+    block
+}
+
+fn empty_zone<B: Bay>(bay: &mut B, device: u8, zone: u16) -> Result<(), Failed>
+    requires device_in { device < (B.shape bay.old).devices }
+    requires zone_in { zone < (B.shape bay.old).zones }
+    ensures ok { OnOk result (Told (B.contents bay.old) (B.contents bay.new) (ZoneHolds device zone [])) }
+    ensures calls { AreCallsOn B.shape B.moment B.faults device bay.old bay.new result }
+{
+    if bay.written(device, zone)? == 0 {
+        return Ok(());
+    }
+    bay.reset(device, zone)?;
+    Ok(())
+}
+
+fn empty_device<B: Bay>(bay: &mut B, device: u8) -> Result<(), Failed>
+    requires { device < (B.shape bay.old).devices }
+    ensures ok { OnOk result (Told (B.contents bay.old) (B.contents bay.new) (AreEmptied device (B.shape bay.old).zones)) }
+    ensures calls { AreCallsOn B.shape B.moment B.faults device bay.old bay.new result }
+{
+    for zone in 0..bay.zones() {
+        empty_zone(bay, device, zone)?;
+    }
+    Ok(())
+}
+
+/// Puts a block into the empty first zone, and makes it firm.
+fn begin_device<B: Bay>(bay: &mut B, device: u8, block: &[u8]) -> Result<(), Failed>
+    requires device_in { device < (B.shape bay.old).devices }
+    requires zone_in { 0 < (B.shape bay.old).zones }
+    requires fits { length block.now ≤ 512 * (B.shape bay.old).blocks }
+    requires empty { IfSome (B.contents bay.old) (λ held. held device 0 ≡ []) }
+    ensures ok { OnOk result (Told (B.contents bay.old) (B.contents bay.new) (ZoneHolds device 0 block.now)) }
+    ensures calls { AreCallsOn B.shape B.moment B.faults device bay.old bay.new result }
+{
+    bay.append(device, 0, block)?;
+    bay.flush(device)?;
+    Ok(())
+}
+
+fn format_device<B: Bay>(bay: &mut B, device: u8, block: &[u8]) -> Result<(), Failed>
+    requires device_in { device < (B.shape bay.old).devices }
+    requires zone_in { 0 < (B.shape bay.old).zones }
+    requires fits { length block.now ≤ 512 * (B.shape bay.old).blocks }
+    ensures ok { OnOk result (Told (B.contents bay.old) (B.contents bay.new) (DeviceHolds device (B.shape bay.old).zones block.now)) }
+    ensures calls { AreCallsOn B.shape B.moment B.faults device bay.old bay.new result }
+{
+    empty_device(bay, device)?;
+    begin_device(bay, device, block)?;
+    Ok(())
+}
+
+impl<B: Bay> Core<B> {
+    /// Makes an array of this geometry: each zone that is written is reset, and each device gets its label.
+    pub fn format(bay: &mut B, geometry: &Geometry, array: [u8; 16]) -> Result<(), FormatFailed>
+        requires within { IsWithinLimits geometry.now }
+        requires shaped { IsOfBay (B.shape bay.old) geometry.now }
+        ensures ok { OnOk result (Told (B.contents bay.old) (B.contents bay.new) (λ _ held. IsFormatted (B.shape bay.old) geometry.now array held)) }
+        ensures counts { OnOk result ((d : ℕ) → B.faults bay.new d ≡ B.faults bay.old d) }
+        ensures failed { IfErr result (λ failed. (failed.device < (B.shape bay.old).devices) × Rose (B.faults bay.old failed.device) (B.faults bay.new failed.device)) }
+        ensures others { IfErr result (λ failed. (d : ℕ) → d ≢ failed.device → B.faults bay.new d ≡ B.faults bay.old d) }
+        ensures shape { B.shape bay.new ≡ B.shape bay.old }
+        ensures later { B.moment bay.old ≤ B.moment bay.new }
+    {
+        for device in 0..bay.devices() {
+            let block = block_of(&Label {
+                version: VERSION,
+                device,
+                geometry: *geometry,
+                array,
+            });
+            if format_device(bay, device, &block).is_err() {
+                return Err(FormatFailed { device });
+            }
+        }
+        Ok(())
+    }
+}
