@@ -53,6 +53,18 @@ module _ {B : Type 0} (shape : B → Shape) (moment : B → ℕ) (faults : B →
     zone = zone2_same (contents bay);
   }
 
+  -- calls that write nothing
+  pub goes_by_calls : {T E : Type 0} (r : Result T E) (lost : Bool) (old new : B) → AreCallsOn shape moment faults 0 old new r → contents new ≡ contents old → GoesOn shape moment faults contents lost lost old new
+  goes_by_calls r lost old new calls same = record {
+    same_shape = calls.same_shape;
+    later = calls.later;
+    keeps = calls.cause.keeps;
+    others = calls.others;
+    cause = λ working is. absurd (true≢false (sym is ∙ working));
+    stays = λ h. h;
+    zone = zone2_equal (contents old) (contents new) same;
+  }
+
   lost_between : (first_lost mid_lost last_lost : Bool) (first mid last : B) → GoesOn shape moment faults contents first_lost mid_lost first mid → GoesOn shape moment faults contents mid_lost last_lost mid last → first_lost ≡ false → last_lost ≡ true → Rose (faults first 0) (faults last 0)
   lost_between first_lost true last_lost first mid last before after working is = λ below. omega (arith, before.cause working refl (omega (arith, after.keeps, below)), after.keeps)
   lost_between first_lost false last_lost first mid last before after working is = λ below. omega (arith, before.keeps, after.cause refl is below)

@@ -1,15 +1,17 @@
-ghost use Rattle.std.specs.Prelude.{◌≡◌, ℕ, ◌-◌, ◌<◌, ◌≤◌, ◌^◌, List, length, Bool, true, All};
+ghost use Rattle.std.specs.Prelude.{◌≡◌, ℕ, ◌-◌, ◌<◌, ◌≤◌, ◌^◌, List, [], length, Bool, true, false, All, IfOk, IfErr, IfSome, MatchResult};
 ghost use Rattle.std.specs.Option.{ForSome};
 ghost use Rattle.smore_base.specs.Geometry.{IsWithinLimits};
 ghost use Rattle.zone_bay.specs.Outside.{Told};
 ghost use Rattle.smore_top.specs.Frames.{reply_body, max_body};
-ghost use Rattle.smore_top.specs.CoreFacts.{HoldsUsed, Works};
+ghost use Rattle.smore_top.specs.CoreFacts.{GoesOn, HoldsUsed, Works};
 ghost use Rattle.smore_top.specs.Label.{IsOfBay};
+ghost use Rattle.smore_top.specs.Opening.{OpensWith, OpensOnlyAtFault};
 ghost use Rattle.smore_top.specs.Index.{IsKept, HasEntry};
 ghost use Rattle.smore_top.specs.Store.{Cause, Move, told_store};
 
 use crate::blocks::{append_firm, data_blocks, read_object};
 use crate::newest::newest;
+use crate::opening::{OpenRefusal, openable};
 use crate::stored::Stored;
 use object_machine::{Op, Refusal, Reply};
 use smore_base::{Bytes, Geometry, Name, NameBad};
@@ -43,6 +45,30 @@ fn refused(why: Refusal) -> Reply
 }
 
 impl<B: Bay> Core<B> {
+    /// Opens a bay: drive 0 has a label of this bay with k 1 and p 1, and nothing in its zone 2. Nothing is written.
+    pub fn open(alloc: Global, mut bay: B) -> Result<Core<B>, (OpenRefusal, B)>
+        ensures ok { IfOk result (λ core. (core.index.items ≡ []) × (core.used ≡ 0) × (core.is_lost ≡ false)) }
+        ensures found { IfSome (B.contents bay) (λ held. IfOk result (λ core. OpensWith (B.shape bay) core.geometry held)) }
+        ensures refused { IfSome (B.contents bay) (λ held. IfErr result (λ refusal. OpensOnlyAtFault (B.shape bay) held (B.faults bay 0) (B.faults refusal.1 0))) }
+        ensures same { MatchResult result (λ core. B.contents core.bay ≡ B.contents bay) (λ refusal. B.contents refusal.1 ≡ B.contents bay) }
+        ensures goes_on { MatchResult result
+            (λ core. GoesOn B.shape B.moment B.faults B.contents false false bay core.bay)
+            (λ refusal. GoesOn B.shape B.moment B.faults B.contents true true bay refusal.1) }
+    {
+        match openable(&mut bay) {
+            Ok(Some(geometry)) => Ok(Core {
+                alloc,
+                bay,
+                geometry,
+                index: Vec::new(alloc),
+                used: 0,
+                is_lost: false,
+            }),
+            Ok(None) => Err((OpenRefusal::NoLabel, bay)),
+            Err(Failed) => Err((OpenRefusal::NoLabel, bay)),
+        }
+    }
+
     /// Answers a call.
     pub fn step(&mut self, op: Op) -> Reply
         ensures cause { Cause (HasEntry self.old.index.items) (self.old.geometry.blocks - self.old.used) self.old.geometry.shard (self.new.is_lost ≡ true) op result }
