@@ -1,4 +1,4 @@
-ghost use Rattle.std.specs.Prelude.{◌<◌, ◌≤◌, length, None, IfSome};
+ghost use Rattle.std.specs.Prelude.{◌≡◌, ◌<◌, ◌≤◌, length, None, IfSome};
 
 use smore_top::Sink;
 use std::io::{ErrorKind, Write};
@@ -32,7 +32,10 @@ fn write_front<W: Write>(writer: &mut W, bytes: &[u8]) -> Option<usize>
 }
 
 impl<W: Write> StdSink<W> {
-    pub fn new(writer: W) -> Self {
+    /// No fault is counted yet.
+    pub fn new(writer: W) -> Self
+        ensures { result.faults ≡ 0 }
+    {
         StdSink { writer, faults: 0 }
     }
 }

@@ -1,4 +1,4 @@
-ghost use Rattle.std.specs.Prelude.{◌≤◌, length, None, IfSome};
+ghost use Rattle.std.specs.Prelude.{◌≡◌, ◌≤◌, length, None, IfSome};
 
 use smore_top::Source;
 use std::io::{ErrorKind, Read};
@@ -27,7 +27,10 @@ fn read_front<R: Read>(reader: &mut R, out: &mut [u8]) -> Option<usize>
 }
 
 impl<R: Read> StdSource<R> {
-    pub fn new(reader: R) -> Self {
+    /// No fault is counted yet.
+    pub fn new(reader: R) -> Self
+        ensures { result.faults ≡ 0 }
+    {
         StdSource { reader, faults: 0 }
     }
 }
