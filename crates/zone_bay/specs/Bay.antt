@@ -16,8 +16,16 @@ Contents = ℕ → ℕ → List ℕ
 pub record IsCallOn {B T E : Type 0} (shape : B → Shape) (moment : B → ℕ) (faults : B → ℕ → ℕ) (device : ℕ) (old new : B) (result : Result T E) : Type 0 where
   pub same_shape : shape new ≡ shape old
   pub later : moment new ≡ counted (moment old)
+  pub no_earlier : moment old ≤ moment new
   -- no call is answered after the last moment
   pub in_time : moment old ≡ last → IsErr result
+  pub cause : HasCause result (faults old device) (faults new device)
+  pub others : (d : ℕ) → d ≢ device → faults new d ≡ faults old d
+
+-- What several calls on a device do beside their work.
+pub record AreCallsOn {B T E : Type 0} (shape : B → Shape) (moment : B → ℕ) (faults : B → ℕ → ℕ) (device : ℕ) (old new : B) (result : Result T E) : Type 0 where
+  pub same_shape : shape new ≡ shape old
+  pub later : moment old ≤ moment new
   pub cause : HasCause result (faults old device) (faults new device)
   pub others : (d : ℕ) → d ≢ device → faults new d ≡ faults old d
 
