@@ -288,8 +288,7 @@ mod tests {
         }
     }
 
-    /// Makes calls on two devices of two zones, which are to succeed but those that are listed, and then compares
-    /// what each zone holds.
+    /// Makes the calls, which are to succeed but those that are listed, and compares what the zones hold after each.
     fn make_each(
         rt: &impl Abort,
         bay: &mut MemoryBay,
@@ -300,75 +299,76 @@ mod tests {
             let moment = bay.moment();
             let answer = make(rt, bay, *call);
             assert_eq!(rt; answer.is_err(), listed.contains(&moment), "at {moment}");
-            assert_eq!(rt; bay.moment(), moment.saturating_add(1));
-            assert_eq!(rt; (bay.devices(), bay.zones(), bay.blocks()), (2, 2, 1));
-            assert_eq!(rt; bay.held(0, 0), held[0].as_bytes(), "at {moment}");
-            assert_eq!(rt; bay.held(0, 1), held[1].as_bytes(), "at {moment}");
-            assert_eq!(rt; bay.held(1, 0), held[2].as_bytes(), "at {moment}");
-            assert_eq!(rt; bay.held(1, 1), held[3].as_bytes(), "at {moment}");
+            let zones = bay.held.iter().flatten();
+            assert!(rt;
+                zones
+                    .map(|zone| zone.as_slice())
+                    .eq(held.iter().map(|text| text.as_bytes())),
+                "at {moment}"
+            );
         }
     }
+
+    const CALLS: [(Call, [&str; 4]); 12] = [
+        (Call::Append(0, 1, "ab"), ["", "ab", "", ""]),
+        (Call::Append(1, 0, "flash"), ["", "ab", "flash", ""]),
+        (Call::Append(0, 1, "cde"), ["", "abcde", "flash", ""]),
+        (Call::Written(0, 1, 5), ["", "abcde", "flash", ""]),
+        (Call::Flush(0), ["", "abcde", "flash", ""]),
+        (
+            Call::Read(0, 1, 2, [b'c', b'd']),
+            ["", "abcde", "flash", ""],
+        ),
+        (
+            Call::Read(1, 0, 3, [b's', b'h']),
+            ["", "abcde", "flash", ""],
+        ),
+        (Call::Reset(0, 1), ["", "", "flash", ""]),
+        (Call::Append(0, 1, "y"), ["", "y", "flash", ""]),
+        (Call::Append(0, 0, "x"), ["x", "y", "flash", ""]),
+        (Call::Replace(0), ["", "", "flash", ""]),
+        (Call::Append(0, 0, "z"), ["z", "", "flash", ""]),
+    ];
 
     #[test]
     fn calls_succeed(rt: HostRuntime) -> Result<(), Fail> {
         let mut bay = MemoryBay::new(rt.alloc(), 2, 2, 1)?;
-        make_each(
-            &rt,
-            &mut bay,
-            &[],
-            &[
-                (Call::Append(0, 1, "ab"), ["", "ab", "", ""]),
-                (Call::Append(1, 0, "flash"), ["", "ab", "flash", ""]),
-                (Call::Append(0, 1, "cde"), ["", "abcde", "flash", ""]),
-                (Call::Written(0, 1, 5), ["", "abcde", "flash", ""]),
-                (Call::Flush(0), ["", "abcde", "flash", ""]),
-                (Call::Read(0, 1, 2, *b"cd"), ["", "abcde", "flash", ""]),
-                (Call::Read(1, 0, 3, *b"sh"), ["", "abcde", "flash", ""]),
-                (Call::Reset(0, 1), ["", "", "flash", ""]),
-                (Call::Append(0, 1, "y"), ["", "y", "flash", ""]),
-                (Call::Append(0, 0, "x"), ["x", "y", "flash", ""]),
-                (Call::Replace(0), ["", "", "flash", ""]),
-                (Call::Append(0, 0, "z"), ["z", "", "flash", ""]),
-            ],
-        );
-        assert_eq!(rt; bay.moment, 12);
-        assert_eq!(rt; bay.reads, 1);
+        assert_eq!(rt; (bay.devices(), bay.zones(), bay.blocks()), (2, 2, 1));
+        make_each(&rt, &mut bay, &[], &CALLS);
+        assert_eq!(rt; (bay.moment(), bay.reads), (12, 1));
         assert_eq!(rt; bay.faults.as_slice(), [0, 0].as_slice());
         Ok(())
     }
 
+    const LISTED: [u64; 8] = [1, 2, 3, 4, 6, 7, 8, 200];
+
+    const FAILING_CALLS: [(Call, [&str; 4]); 10] = [
+        (Call::Append(0, 1, "abc"), ["", "abc", "", ""]),
+        (Call::Append(0, 1, "de"), ["", "abc", "", ""]),
+        (Call::Reset(0, 1), ["", "abc", "", ""]),
+        (Call::Replace(0), ["", "abc", "", ""]),
+        (Call::Append(1, 0, "flash"), ["", "abc", "", ""]),
+        (Call::Append(1, 0, "flash"), ["", "abc", "flash", ""]),
+        (Call::Written(1, 0, 5), ["", "abc", "flash", ""]),
+        (Call::Read(0, 1, 0, [b'a', b'b']), ["", "abc", "flash", ""]),
+        (Call::Flush(0), ["", "abc", "flash", ""]),
+        (Call::Read(0, 1, 1, [b'b', b'c']), ["", "abc", "flash", ""]),
+    ];
+
     #[test]
     fn listed_calls_fail(rt: HostRuntime) -> Result<(), Fail> {
         let mut bay = MemoryBay::new(rt.alloc(), 2, 2, 1)?;
-        let listed = [1, 2, 3, 4, 6, 7, 8, 200];
-        bay.fail_at(&listed[..4])?;
-        bay.fail_at(&listed[4..])?;
-        make_each(
-            &rt,
-            &mut bay,
-            &listed,
-            &[
-                (Call::Append(0, 1, "abc"), ["", "abc", "", ""]),
-                (Call::Append(0, 1, "de"), ["", "abc", "", ""]),
-                (Call::Reset(0, 1), ["", "abc", "", ""]),
-                (Call::Replace(0), ["", "abc", "", ""]),
-                (Call::Append(1, 0, "flash"), ["", "abc", "", ""]),
-                (Call::Append(1, 0, "flash"), ["", "abc", "flash", ""]),
-                (Call::Written(1, 0, 5), ["", "abc", "flash", ""]),
-                (Call::Read(0, 1, 0, *b"ab"), ["", "abc", "flash", ""]),
-                (Call::Flush(0), ["", "abc", "flash", ""]),
-                (Call::Read(0, 1, 1, *b"bc"), ["", "abc", "flash", ""]),
-            ],
-        );
-        assert_eq!(rt; bay.moment, 10);
-        assert_eq!(rt; bay.reads, 2);
+        bay.fail_at(&LISTED[..4])?;
+        bay.fail_at(&LISTED[4..])?;
+        make_each(&rt, &mut bay, &LISTED, &FAILING_CALLS);
+        assert_eq!(rt; (bay.moment(), bay.reads), (10, 2));
         assert_eq!(rt; bay.faults.as_slice(), [5, 2].as_slice());
         Ok(())
     }
 
     #[test]
     fn zones_of_four_gib_are_refused(rt: HostRuntime) -> Result<(), Fail> {
-        assert_eq!(rt; MemoryBay::new(rt.alloc(), 1, 1, 1 << 23).is_err(), true);
+        assert!(rt; MemoryBay::new(rt.alloc(), 1, 1, 1 << 23).is_err());
         let bay = MemoryBay::new(rt.alloc(), 1, 1, (1 << 23) - 1)?;
         assert_eq!(rt; bay.blocks(), 8_388_607);
         Ok(())
