@@ -52,12 +52,13 @@ pub record KeepsAllButList (old new : MemoryBay) : Type 0 where
   pub moment : moment_of new ≡ moment_of old
   pub reads : reads_of new ≡ reads_of old
 
--- all but the moment, the faults and the list is as it was
+-- all but the moment and the faults is as it was
 pub record KeepsHeld (old new : MemoryBay) : Type 0 where
   pub devices : new.devices ≡ old.devices
   pub zones : new.zones ≡ old.zones
   pub blocks : new.blocks ≡ old.blocks
   pub held : zones_of new.held.items ≡ zones_of old.held.items
+  pub listed : listed_calls new ≡ listed_calls old
   pub reads : reads_of new ≡ reads_of old
 
 -- one more fault of the device

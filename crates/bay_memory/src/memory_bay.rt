@@ -113,7 +113,7 @@ impl MemoryBay {
 
 impl Bay for MemoryBay {
     ghost use Rattle.zone_bay.specs.Bay.{IsCallOn, reads_after, Reads, Becomes, appended, emptied, blanked, BecomesInPart, BecomesOrStays};
-    ghost use Rattle.bay_memory.specs.MemoryBay.{shape_of, contents_of, told, faults_of, moment_of, reads_of, IsDue, FailsIfDue};
+    ghost use Rattle.bay_memory.specs.MemoryBay.{shape_of, contents_of, told, faults_of, moment_of, reads_of, listed_calls, IsDue, FailsIfDue};
 
     ghost shape = { shape_of };
 
@@ -145,6 +145,7 @@ impl Bay for MemoryBay {
         requires device_in { device < (shape_of self.old).devices }
         requires zone_in { zone < (shape_of self.old).zones }
         ensures exact { FailsIfDue self.old result }
+        ensures listed { listed_calls self.new ≡ listed_calls self.old }
         ensures length { IfOk result (λ bytes. bytes ≡ length (contents_of self.old device zone)) }
         ensures same { told self.new ≡ told self.old }
         ensures call { IsCallOn shape_of moment_of faults_of device self.old self.new result }
@@ -159,6 +160,7 @@ impl Bay for MemoryBay {
         requires zone_in { zone < (shape_of self.old).zones }
         requires written { at + length out.old ≤ length (contents_of self.old device zone) }
         ensures exact { FailsIfDue self.old result }
+        ensures listed { listed_calls self.new ≡ listed_calls self.old }
         ensures bytes { OnOk result (Reads (contents_of self.old device zone) at out.new) }
         ensures same { told self.new ≡ told self.old }
         ensures call { IsCallOn shape_of moment_of faults_of device self.old self.new result }
@@ -179,6 +181,7 @@ impl Bay for MemoryBay {
         requires zone_in { zone < (shape_of self.old).zones }
         requires fits { length (contents_of self.old device zone) + length bytes.now ≤ 512 * (shape_of self.old).blocks }
         ensures exact { OnOk result (¬ IsDue self.old) }
+        ensures listed { listed_calls self.new ≡ listed_calls self.old }
         ensures kept { OnErr result (told self.new ≡ told self.old) }
         ensures ok { OnOk result (Becomes (appended device zone bytes.now) (told self.old) (told self.new)) }
         ensures err { OnErr result (BecomesInPart device zone bytes.now (told self.old) (told self.new)) }
@@ -199,6 +202,7 @@ impl Bay for MemoryBay {
         requires device_in { device < (shape_of self.old).devices }
         requires zone_in { zone < (shape_of self.old).zones }
         ensures exact { FailsIfDue self.old result }
+        ensures listed { listed_calls self.new ≡ listed_calls self.old }
         ensures kept { OnErr result (told self.new ≡ told self.old) }
         ensures ok { OnOk result (Becomes (emptied device zone) (told self.old) (told self.new)) }
         ensures err { OnErr result (BecomesOrStays (emptied device zone) (told self.old) (told self.new)) }
@@ -213,6 +217,7 @@ impl Bay for MemoryBay {
     fn flush(&mut self, device: u8) -> Result<(), Failed>
         requires { device < (shape_of self.old).devices }
         ensures exact { FailsIfDue self.old result }
+        ensures listed { listed_calls self.new ≡ listed_calls self.old }
         ensures same { told self.new ≡ told self.old }
         ensures call { IsCallOn shape_of moment_of faults_of device self.old self.new result }
         ensures reads { reads_of self.new ≡ reads_of self.old }
@@ -223,6 +228,7 @@ impl Bay for MemoryBay {
     fn replace(&mut self, device: u8) -> Result<(), Failed>
         requires { device < (shape_of self.old).devices }
         ensures exact { FailsIfDue self.old result }
+        ensures listed { listed_calls self.new ≡ listed_calls self.old }
         ensures kept { OnErr result (told self.new ≡ told self.old) }
         ensures ok { OnOk result (Becomes (blanked device) (told self.old) (told self.new)) }
         ensures err { OnErr result (BecomesOrStays (blanked device) (told self.old) (told self.new)) }
