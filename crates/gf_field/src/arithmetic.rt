@@ -6,7 +6,7 @@ ghost use Rattle.gf_field.specs.Power.{power_of_two};
 
 use crate::tables::{LOGARITHM, POWER, POWERS};
 
-/// The product of two bytes.
+/// The product of two bytes: `docs/FORMATS.md`, "The code".
 pub fn mul(a: u8, b: u8) -> u8
     ensures { result ≡ product a b }
 {

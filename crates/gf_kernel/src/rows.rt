@@ -5,8 +5,8 @@ ghost use Rattle.gf_field.specs.Product.{product};
 
 use crate::products::products_of;
 
-/// Adds `c` times each byte of `src` to the byte of `out` at the same place. Takes no memory, and no time that depends on
-/// what the bytes are.
+/// Adds `c` times each byte of `src` to the byte of `out` at the same place: `docs/FORMATS.md`, "The code". Takes no
+/// memory.
 pub fn mul_add(out: &mut [u8], src: &[u8], c: u8)
     requires { length out.old ≡ length src.now }
     ensures { EachIndex out.new
