@@ -1,0 +1,5 @@
+pub mod Checked
+pub mod Linear
+pub mod TableFacts
+pub mod Field
+pub mod Polynomial

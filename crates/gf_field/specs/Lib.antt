@@ -1,0 +1,4 @@
+pub mod Product
+pub mod Field
+pub mod Polynomial
+pub mod Power
