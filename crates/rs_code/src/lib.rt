@@ -1,0 +1,6 @@
+//! The erasure code.
+#![tactic(auto)]
+
+mod laws;
+
+pub use laws::any_fragments;
