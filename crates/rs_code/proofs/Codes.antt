@@ -31,7 +31,7 @@ index_below k n points h s here = at_one_of (λ i. i < n) points s (recursion_fr
 
 -- ---- any k fragments give all
 -- byte c of a fragment
-pub byte_of : List (List ℕ) → ℕ → ℕ → ℕ
+unfoldable pub byte_of : List (List ℕ) → ℕ → ℕ → ℕ
 byte_of fragments c i = get_or (fragment_at fragments i) c 0
 
 byte_is_value : (k n f : ℕ) (fragments : List (List ℕ)) (code : IsCode k n f fragments) (c : ℕ) (hc : c < f) (i : ℕ) → i < n

@@ -1,2 +1,4 @@
 pub mod Interpolation
+pub mod Factors
 pub mod Codes
+pub mod Sources

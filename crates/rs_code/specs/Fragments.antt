@@ -26,10 +26,18 @@ abbrev pub HoldsFragments : List (List ℕ) → ℕ → List ℕ → List ℕ �
 HoldsFragments fragments f indexes bytes =
     (i : ℕ) → i < length indexes → piece bytes f i ≡ fragment_at fragments (slice_index indexes i)
 
--- a code whose first k fragments these bytes hold
-pub record IsCodeOf (k n f : ℕ) (bytes : List ℕ) (fragments : List (List ℕ)) : Type 0 where
-  pub code : IsCode k n f fragments
-  pub sources : HoldsFragments fragments f (range_with_len 0 k) bytes
+-- some code has these fragments at these indexes
+abbrev pub HasCode : ℕ → ℕ → ℕ → List ℕ → List ℕ → Type 0
+HasCode k n f indexes bytes = (fragments : List (List ℕ)) × IsCode k n f fragments × HoldsFragments fragments f indexes bytes
+
+-- in each code that has these fragments at these indexes, the wanted one is this
+abbrev pub GivesFragment : ℕ → ℕ → ℕ → List ℕ → List ℕ → ℕ → List ℕ → Type 0
+GivesFragment k n f indexes bytes want made =
+    (fragments : List (List ℕ)) → IsCode k n f fragments → HoldsFragments fragments f indexes bytes → made ≡ fragment_at fragments want
+
+-- the indexes of the source fragments, which are the first k
+abbrev pub sources : ℕ → List ℕ
+sources k = range_with_len 0 k
 
 -- how many bytes each fragment of a payload of this length has: the least with which k hold it
 abbrev pub fragment_len : ℕ → ℕ → ℕ
@@ -41,7 +49,9 @@ padded k payload = payload ++ replicate (k * fragment_len k (length payload) - l
 
 -- the n fragments of a payload
 abbrev pub AreFragments : ℕ → ℕ → List ℕ → List (List ℕ) → Type 0
-AreFragments k n payload fragments = IsCodeOf k n (fragment_len k (length payload)) (padded k payload) fragments
+AreFragments k n payload fragments =
+    let f = fragment_len k (length payload) in
+    IsCode k n f fragments × HoldsFragments fragments f (sources k) (padded k payload)
 
 -- the bytes are a payload's fragment of this index
 pub record IsFragment (k n : ℕ) (payload : List ℕ) (index : ℕ) (bytes : List ℕ) : Type 0 where
