@@ -2,3 +2,5 @@ pub mod Interpolation
 pub mod Factors
 pub mod Codes
 pub mod Sources
+pub mod Pieces
+pub mod Payloads

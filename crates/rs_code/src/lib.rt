@@ -2,8 +2,11 @@
 #![tactic(auto)]
 
 mod code;
+mod coded;
 mod factor;
 mod laws;
+mod parity;
 
 pub use code::Code;
+pub use coded::Coded;
 pub use laws::any_fragments;
