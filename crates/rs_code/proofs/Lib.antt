@@ -4,3 +4,4 @@ pub mod Codes
 pub mod Sources
 pub mod Pieces
 pub mod Payloads
+pub mod Parts
