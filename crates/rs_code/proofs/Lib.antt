@@ -5,3 +5,4 @@ pub mod Sources
 pub mod Pieces
 pub mod Payloads
 pub mod Parts
+pub mod Indexes

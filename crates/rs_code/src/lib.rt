@@ -12,3 +12,6 @@ pub use blob::Blob;
 pub use code::Code;
 pub use coded::Coded;
 pub use laws::any_fragments;
+
+#[cfg(test)]
+mod tests;
