@@ -2,9 +2,11 @@
 use Rattle.std.proofs.Common.{◌≡◌, ℕ, suc, zero, ◌+◌, ◌-◌, ◌*◌, ◌<◌, ◌≤◌, List, [], ◌∷◌, ◌++◌, length, get_or, take, replicate, refl, sym, ap, ◌∙◌, arith, subst}
 use Rattle.std.proofs.lemmas.Grind.{div_ceil_times}
 use Rattle.std.proofs.lemmas.List.{take-take, take_all, take_at, append_assoc, length-append, length-replicate, replicate-append-replicate}
-use Rattle.gf_field.specs.Field.{IsByte}
-use Rattle.rs_code.specs.Fragments.{fragment_at, IsCode, fragment_len, padded, AreFragments}
+use Rattle.gf_field.specs.Field.{IsByte, AreBytes}
+use Rattle.rs_code.specs.Fragments.{fragment_at, sources, IsCode, fragment_len, padded, AreFragments, EachPayloadHasOneCode}
 use Rattle.rs_code.specs.Coded.{pieces, KeepsFragments}
+use Rattle.rs_code.proofs.Codes.{code_through, any_fragments_give_all}
+use Rattle.rs_code.proofs.Sources.{sources_are_indexes}
 use Rattle.rs_code.proofs.Pieces.{piece_within, same_piece, pieces_at}
 use Rattle.std.proofs.lemmas.List.FromFn.{length-range_with_len, get_or-range_with_len}
 
@@ -18,25 +20,23 @@ front_is_bytes (x ∷ xs) ys h (suc i) = front_is_bytes xs ys (λ i. h (suc i)) 
 pub payload_fits : (k len : ℕ) → 1 ≤ k → len ≤ k * fragment_len k len
 payload_fits k len h = let d = div_ceil_times len k h in let e = d.0 in omega arith
 
-length-padded : (k : ℕ) (payload : List ℕ) → 1 ≤ k → length (padded k payload) ≡ k * fragment_len k (length payload)
-length-padded k payload h =
-    let fits = payload_fits k (length payload) h in
-    let size = k * fragment_len k (length payload) in
-    length-append payload (replicate (size - length payload) 0)
-    ∙ ap (λ n. length payload + n) (length-replicate (size - length payload) 0)
-    ∙ (let e : length payload + (size - length payload) ≡ size = omega arith in e)
+-- a payload with zeros after it, cut where there are fewer of them
+length-filled : (payload : List ℕ) (size more : ℕ) → length payload + more ≡ size → length (payload ++ replicate more 0) ≡ size
+length-filled payload size more e =
+    length-append payload (replicate more 0) ∙ ap (λ n. length payload + n) (length-replicate more 0) ∙ e
 
--- the beginning of a payload that is filled up with zeros
-pub take-filled : (k total : ℕ) (payload : List ℕ) → 1 ≤ k → k * fragment_len k (length payload) ≤ total
-    → take (k * fragment_len k (length payload)) (payload ++ replicate (total - length payload) 0) ≡ padded k payload
-take-filled k total payload h within =
+take-filled : (payload : List ℕ) (size more rest all : ℕ) → length payload + more ≡ size → more + rest ≡ all → take size (payload ++ replicate all 0) ≡ payload ++ replicate more 0
+take-filled payload size more rest all e split =
+    ap (λ n. take size (payload ++ replicate n 0)) (sym split)
+    ∙ ap (λ zeros. take size (payload ++ zeros)) (sym (replicate-append-replicate more rest 0))
+    ∙ ap (take size) (sym (append_assoc payload (replicate more 0) (replicate rest 0)))
+    ∙ take_at (payload ++ replicate more 0) (replicate rest 0) size (length-filled payload size more e)
+
+pub length-padded : (k : ℕ) (payload : List ℕ) → 1 ≤ k → length (padded k payload) ≡ k * fragment_len k (length payload)
+length-padded k payload h =
     let size = k * fragment_len k (length payload) in
     let fits = payload_fits k (length payload) h in
-    let split : (size - length payload) + (total - size) ≡ total - length payload = omega arith in
-    ap (λ n. take size (payload ++ replicate n 0)) (sym split)
-    ∙ ap (λ zeros. take size (payload ++ zeros)) (sym (replicate-append-replicate (size - length payload) (total - size) 0))
-    ∙ ap (take size) (sym (append_assoc payload (replicate (size - length payload) 0) (replicate (total - size) 0)))
-    ∙ take_at (padded k payload) (replicate (total - size) 0) size (length-padded k payload h)
+    length-filled payload size (size - length payload) (omega arith)
 
 -- bytes of which the first pieces are a padded payload begin with it
 pub starts_with_payload : (k : ℕ) (payload bytes : List ℕ) → 1 ≤ k → take (k * fragment_len k (length payload)) bytes ≡ padded k payload → take (length payload) bytes ≡ payload
@@ -96,7 +96,7 @@ filled k p f size had payload none filling full h is total start added len rest 
     ∙ ap (λ n. take size payload ++ replicate (size - n) 0) len
     ∙ ap (λ xs. xs ++ replicate (size - length payload) 0) (take_all size payload (omega arith))
     in
-    ap (λ g. take (k * g) full) is ∙ ap (take (k * least)) full_is ∙ take-filled k size payload h within
+    ap (λ g. take (k * g) full) is ∙ ap (take (k * least)) full_is ∙ take-filled payload (k * least) (k * least - length payload) (size - k * least) (size - length payload) (omega arith) (omega arith)
 
 -- what stands in the vector once the parity is added: it begins with the payload, and keeps its fragments
 pub made_whole : (k p f size had kept : ℕ) (payload none filling full whole rest : List ℕ) → 1 ≤ k → f ≡ fragment_len k (length payload) → size ≡ (k + p) * f
@@ -109,4 +109,28 @@ made_whole k p f size had kept payload none filling full whole rest h is total s
     subst (λ xs. (take (length payload) xs ≡ payload) × KeepsFragments k p (length payload) f xs) (sym (take_at whole rest kept l)) (
       starts_with_payload k payload whole h (ap (λ g. take (k * g) whole) (sym is) ∙ front),
       keeps_fragments k p f payload whole h is (l ∙ all ∙ total) code front,
+    )
+
+-- ---- the one code of a payload
+zeros_are_bytes : (n i : ℕ) → IsByte (get_or (replicate n 0) i 0)
+zeros_are_bytes zero i = omega arith
+zeros_are_bytes (suc n) zero = omega arith
+zeros_are_bytes (suc n) (suc i) = zeros_are_bytes n i
+
+filled_is_bytes : (payload : List ℕ) (n : ℕ) → AreBytes payload → (i : ℕ) → IsByte (get_or (payload ++ replicate n 0) i 0)
+filled_is_bytes [] n h i = zeros_are_bytes n i
+filled_is_bytes (x ∷ payload) n h zero = h.0
+filled_is_bytes (x ∷ payload) n h (suc i) = filled_is_bytes payload n h.1 i
+
+pub one_code : EachPayloadHasOneCode
+one_code k n payload h small enough hb =
+    let f = fragment_len k (length payload) in
+    let few = sources_are_indexes k n enough in
+    let through = code_through k n f (sources k) (padded k payload) small few (filled_is_bytes payload (k * f - length payload) hb) (length-padded k payload h) in
+    let count = length-range_with_len 0 k in (
+      through.0,
+      (through.1, through.2),
+      λ others are.
+          any_fragments_give_all k n f (sources k) others (through.0) small few are.0 through.1
+          (λ i hi. let within : i < length (sources k) = omega arith in sym (are.1 i within) ∙ through.2 i within),
     )

@@ -2,12 +2,14 @@
 use Rattle.std.specs.Prelude.{◌≡◌, ℕ, ◌-◌, ◌*◌, ◌<◌, ◌≤◌, List, [], ◌++◌, length, map, take, drop, replicate, slice_index, slice_index_or, nat_eq}
 use Rattle.std.specs.List.{IsDistinct, range_with_len, All}
 use Rattle.std.specs.Int.{div_ceil}
+use Rattle.gf_field.specs.Field.{AreBytes}
 use Rattle.gf_field.specs.Polynomial.{IsCodeword}
 
 -- piece i of bytes that are cut into pieces of f
 abbrev pub piece : List ℕ → ℕ → ℕ → List ℕ
 piece bytes f i = take f (drop (i * f) bytes)
 
+-- the fragment of index i
 abbrev pub fragment_at : List (List ℕ) → ℕ → List ℕ
 fragment_at fragments i = slice_index_or fragments i []
 
@@ -72,3 +74,10 @@ AnyFragmentsGiveAll =
     → IsCode k n f one → IsCode k n f other
     → ((i : ℕ) → i < k → fragment_at one (slice_index indexes i) ≡ fragment_at other (slice_index indexes i))
     → one ≡ other
+
+-- A payload of bytes has fragments, and no others.
+abbrev pub EachPayloadHasOneCode : Type 0
+EachPayloadHasOneCode =
+    (k n : ℕ) (payload : List ℕ) → 1 ≤ k → n ≤ 256 → k ≤ n → AreBytes payload
+    → (fragments : List (List ℕ)) × AreFragments k n payload fragments
+    × ((others : List (List ℕ)) → AreFragments k n payload others → others ≡ fragments)

@@ -11,7 +11,7 @@ mod parity;
 pub use blob::Blob;
 pub use code::Code;
 pub use coded::Coded;
-pub use laws::any_fragments;
+pub use laws::{any_fragments, one_code};
 
 #[cfg(test)]
 mod tests;

@@ -123,6 +123,11 @@ fn blobs_by_length(rt: HostRuntime) -> Result<(), Fail> {
         let coded = Coded::of(rt.alloc(), &code, bytes)?;
         assert_eq!(rt; coded.payload_len(), bytes.len());
     }
-    any_fragments();
     Ok(())
+}
+
+#[test]
+fn laws_hold() {
+    any_fragments();
+    one_code();
 }

@@ -16,7 +16,7 @@ loop-rest-preserved c =
     let later = c.split_at.result.1.now in
     let coded = c.in_ok-of.field-0 in
     let new = c.push.new.self.items in
-    let cut = sym (take-append-drop c.args.size rest) ∙ ap (λ xs. xs ++ drop c.args.size rest) (sym c.split_at.ensures.front) ∙ ap (λ xs. part ++ xs) (sym c.split_at.ensures.back) in
+    let cut : rest ≡ part ++ later = sym (take-append-drop c.args.size rest) ∙ ap (λ xs. xs ++ drop c.args.size rest) (sym c.split_at.ensures.front) ∙ ap (λ xs. part ++ xs) (sym c.split_at.ensures.back) in
     let more = part_added code.k code.p c.loop-rest.parts.items new coded part later rest c.args.bytes.now
     c.in_ok-push.ensures.items c.in_ok-of.ensures cut kept.all_bytes kept.code in
     record {
