@@ -13,7 +13,9 @@ const INDEXES: [u8; 20] = [
 /// to k + p - 1. Any k of them give every other: `docs/FORMATS.md`, "The code".
 #[derive(Clone, Copy, Debug)]
 pub struct Code {
+    /// How many source fragments there are.
     pub k: u8,
+    /// How many fragments of parity there are.
     pub p: u8,
     ghost has_source: { 1 ≤ k },
     ghost has_parity: { 1 ≤ p },
@@ -21,6 +23,7 @@ pub struct Code {
 }
 
 impl Code {
+    /// The code with so many source fragments and so many of parity.
     pub fn new(k: u8, p: u8) -> Code
         requires source { 1 ≤ k }
         requires parity { 1 ≤ p }
@@ -52,8 +55,8 @@ impl Code {
         self.fragment_into(have, shards, f, self.k + j, out);
     }
 
-    /// Writes the fragment of index `want`, source or parity. `fragments` are k others of `f` bytes each, whose indexes
-    /// `have` are, in its order. Takes no memory.
+    /// Writes the fragment of index `want`, source or parity. `fragments` are those of the k indexes in `have`, in its order,
+    /// of `f` bytes each. Takes no memory.
     pub fn fragment_into(&self, have: &[u8], fragments: &[u8], f: usize, want: u8, out: &mut [u8])
         requires have { AreIndexes self.now.k (self.now.k + self.now.p) have.now }
         requires size { length fragments.now ≡ self.now.k * f }

@@ -57,6 +57,7 @@ impl Coded {
         &fragments[from..from + self.fragment_len]
     }
 
+    /// How many bytes the payload has, without the zeros after it.
     pub fn payload_len(&self) -> usize
         ensures { result ≡ length self.now.payload }
     {
