@@ -31,3 +31,15 @@ pub fn checksum(bytes: &[u8]) -> u64
         |sum: u64, byte| sum.wrapping_mul(PRIME) ^ u64::from(*byte),
     )
 }
+
+/// That many rows, one after another, each another one.
+pub fn filled_rows(alloc: Global, rows: u8) -> Result<Vec<u8>, AllocError>
+    ensures { IfOk result (λ bytes. vec_len bytes ≡ rows * ROW) }
+{
+    let mut bytes = Vec::new(alloc);
+    for step in 0..rows {
+        let row = filled_row(alloc, u32::from(step) + 40_503)?;
+        bytes.extend_from_slice(row.as_slice())?;
+    }
+    Ok(bytes)
+}

@@ -42,17 +42,17 @@ polynomial_sum [] q = []
 polynomial_sum (a ∷ p) [] = []
 polynomial_sum (a ∷ p) (b ∷ q) = bit_xor a b ∷ polynomial_sum p q
 
-length-polynomial_sum : (p q : List ℕ) → length p ≡ length q → length (polynomial_sum p q) ≡ length p
+pub length-polynomial_sum : (p q : List ℕ) → length p ≡ length q → length (polynomial_sum p q) ≡ length p
 length-polynomial_sum [] q h = refl
 length-polynomial_sum (a ∷ p) [] h = cc
 length-polynomial_sum (a ∷ p) (b ∷ q) h = ap suc (length-polynomial_sum p q cc)
 
-sum_is_bytes : (p q : List ℕ) → AreBytes p → AreBytes q → AreBytes (polynomial_sum p q)
+pub sum_is_bytes : (p q : List ℕ) → AreBytes p → AreBytes q → AreBytes (polynomial_sum p q)
 sum_is_bytes [] q h k = tt
 sum_is_bytes (a ∷ p) [] h k = tt
 sum_is_bytes (a ∷ p) (b ∷ q) h k = (xor_lt 8 a b h.0 k.0, sum_is_bytes p q h.1 k.1)
 
-value_at-polynomial_sum : (p q : List ℕ) (x : ℕ) → length p ≡ length q → value_at (polynomial_sum p q) x ≡ bit_xor (value_at p x) (value_at q x)
+pub value_at-polynomial_sum : (p q : List ℕ) (x : ℕ) → length p ≡ length q → value_at (polynomial_sum p q) x ≡ bit_xor (value_at p x) (value_at q x)
 value_at-polynomial_sum [] [] x h = refl
 value_at-polynomial_sum [] (b ∷ q) x h = cc
 value_at-polynomial_sum (a ∷ p) [] x h = cc

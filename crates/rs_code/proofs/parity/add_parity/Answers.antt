@@ -1,0 +1,17 @@
+use Rattle.std.proofs.Common.{◌++◌, refl, arith}
+use Rattle.rs_code.proofs.Pieces.{pieces_are_code}
+use Rattle.rs_code.proofs.Payloads.{front_is_bytes}
+use Rattle.rs_code.proofs.parity.add_parity.Goals as goal
+
+pub returns-clause-code : goal.returns-clause-code
+returns-clause-code c =
+    let code = c.args.code.now in
+    let few = code.few in
+    let shards = c.split_at_mut-shards.result.0.now in
+    let parity = c.parity_of.new.parity in
+    let total = c.requires in
+    let back = c.split_at_mut-shards.ensures.back_len in
+    let same = c.parity_of.auto.parity in
+    pieces_are_code code.k code.p c.args.f (shards ++ parity) shards parity (omega arith)
+    (front_is_bytes shards parity (λ i. let fits = c.type_inv.bytes i in omega arith))
+    c.split_at_mut-shards.ensures.front_len (omega arith) refl c.parity_of.ensures

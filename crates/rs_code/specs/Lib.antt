@@ -1,0 +1,4 @@
+pub mod Fragments
+pub mod Factor
+pub mod Coded
+pub mod Blob
