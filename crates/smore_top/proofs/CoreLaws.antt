@@ -1,5 +1,5 @@
 -- What a step of the core does beside its answer, and its move where the contents are told.
-use Rattle.std.proofs.Common.{◌≡◌, ℕ, ◌+◌, ◌*◌, ◌≤◌, Bool, true, false, cond, ◌&&◌, ◌==◌, List, [], ◌++◌, length, take, Some, None, Option, Ok, Err, IfSome, arith, refl, sym, ap, subst, ◌∙◌, eqb-true, length-append}
+use Rattle.std.proofs.Common.{◌≡◌, ℕ, ◌+◌, ◌*◌, ◌≤◌, Bool, true, false, cond, ◌&&◌, ◌==◌, List, [], ◌++◌, length, take, Some, None, Option, Ok, Err, IfSome, arith, refl, sym, ap, subst, ◌∙◌, eqb-true, length-append, Result}
 use Rattle.std.specs.Option.{option_map, ForSome}
 use mathlib.Core.Bool.{true≢false}
 use Rattle.std.proofs.lemmas.List.{take-append-le}

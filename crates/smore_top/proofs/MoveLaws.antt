@@ -20,11 +20,11 @@ use Rattle.smore_top.proofs.BlockLaws.{length-blocks_from, object_at-front, obje
 use Rattle.smore_top.proofs.ObjectLaws.{found_or, get-objects_of, object_from_entry, entry_from_object, objects_of-push, objects_of-same, found_kept}
 
 -- drive 0 is lost in the state exactly where the core says so
-lost_from : (b : Bool) → IsTrue (set.contains (lost_drives b) 0) → b ≡ true
+pub lost_from : (b : Bool) → IsTrue (set.contains (lost_drives b) 0) → b ≡ true
 lost_from true is = refl
 lost_from false is = sym (set.contains-empty nat_cmp 0) ∙ is
 
-lost_to : IsTrue (set.contains (lost_drives true) 0)
+pub lost_to : IsTrue (set.contains (lost_drives true) 0)
 lost_to = set.contains-insert nat_cmp_total set.empty 0 0
 
 or_again : (a b : Bool) → (a || (a || b)) ≡ (a || b)
@@ -63,6 +63,9 @@ module _ (blocks shard used : ℕ) (index : List Stored) (zone : List ℕ) (lost
   accepts_still : (name object : List ℕ) → Accepts (blocks - used) shard name object → Accepts (blocks - length (take (512 * used) zone) / 512) shard name object
   accepts_still name object a = record { named = a.named; small = a.small; fits = omega (arith, a.fits, used_blocks) }
 
+  still_working : lost ≡ false → IsTrue (set.contains (lost_drives lost) 0) → ⊥
+  still_working working is = true≢false (sym (lost_from lost is) ∙ working)
+
   -- the name has no object
   pub not_found : (name : List ℕ) → IsName name → newest_of index name ≡ None → Move blocks shard (store_over index lost (take (512 * used) zone)) (Get name) NotFound (store_over index lost (take (512 * used) zone))
   not_found name is none = record {
@@ -76,15 +79,24 @@ module _ (blocks shard used : ℕ) (index : List Stored) (zone : List ℕ) (lost
   }
 
   -- no memory for the object
-  pub get_memory : (name : List ℕ) → HasEntry index name → Move blocks shard (store_over index lost (take (512 * used) zone)) (Get name) (Refused Memory) (store_over index lost (take (512 * used) zone))
-  get_memory name has =
+  pub get_memory : (name : List ℕ) → HasEntry index name → lost ≡ false → Move blocks shard (store_over index lost (take (512 * used) zone)) (Get name) (Refused Memory) (store_over index lost (take (512 * used) zone))
+  get_memory name has working =
       let object = object_from_entry (take (512 * used) zone) index name has in
       record {
-        cause = object;
+        cause = (object, still_working working);
         step = record { answers = (tt, λ _. object, refl); stay_lost = λ d h. h };
         written = refl;
         lost = refl;
       }
+
+  -- no memory for a put
+  pub put_memory : (name object : List ℕ) → Accepts (blocks - used) shard name object → lost ≡ false → Move blocks shard (store_over index lost (take (512 * used) zone)) (Put name object) (Refused Memory) (store_over index lost (take (512 * used) zone))
+  put_memory name object accepts working = record {
+    cause = (accepts_still name object accepts, still_working working);
+    step = record { answers = (tt, refl); stay_lost = λ d h. h };
+    written = refl;
+    lost = refl;
+  }
 
   -- drive 0 is lost, now or before
   pub get_lost : (name other : List ℕ) → HasEntry index name → take (512 * used) other ≡ take (512 * used) zone → Move blocks shard (store_over index lost (take (512 * used) zone)) (Get name) (Refused (TooFewFragments 1 2)) (store_over index true (take (512 * used) other))
@@ -111,7 +123,7 @@ module _ (blocks shard used : ℕ) (index : List Stored) (zone : List ℕ) (lost
   get_object name bytes entry small working found is long =
       let fits = found_kept (IsKept used shard) index name kept entry found in
       record {
-        cause = (object_from_entry (take (512 * used) zone) index name (ap (λ o. is_some o) found), λ h. true≢false (sym (lost_from lost h) ∙ working));
+        cause = (object_from_entry (take (512 * used) zone) index name (ap (λ o. is_some o) found), still_working working);
         step = record {
           answers = (
             get-objects_of (take (512 * used) zone) index name
@@ -148,7 +160,7 @@ module _ (blocks shard used : ℕ) (index : List Stored) (zone : List ℕ) (lost
       ∙ ap (λ (o : List ℕ). map.insert (objects_of (take (512 * used) zone) index) entry.name o) itself
       ∙ ap (λ (n : List ℕ). map.insert (objects_of (take (512 * used) zone) index) n object) named in
       subst (λ (w : List ℕ). Move blocks shard (store_over index lost (take (512 * used) zone)) (Put name object) Done (store_over (index ++ entry ∷ []) lost w)) (sym new_written) (record {
-        cause = (accepts_still name object accepts, λ h. true≢false (sym (lost_from lost h) ∙ working));
+        cause = (accepts_still name object accepts, still_working working);
         step = record { answers = (accepts.named, omega (arith, accepts.small, small), all); stay_lost = λ d h. h };
         written = refl;
         lost = refl;

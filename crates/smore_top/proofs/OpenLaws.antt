@@ -1,9 +1,9 @@
 -- Which bays can't be opened.
-use Rattle.std.proofs.Common.{◌≡◌, ℕ, ◌<◌, List, [], length, Option, Some, None, IfSome, arith, refl, sym, ap, ◌∙◌, lit<}
+use Rattle.std.proofs.Common.{◌≡◌, ℕ, length, sym, ap, ◌∙◌, lit<}
 use Rattle.zone_bay.specs.Bay.{Shape, Contents}
 use Rattle.smore_top.specs.declared.label.Label.{Label}
 use Rattle.smore_top.specs.Label.{HasLabel, label_of}
-use Rattle.smore_top.specs.Opening.{CanOpen, OpensWithNone}
+use Rattle.smore_top.specs.Opening.{OpensWithNone}
 use Rattle.smore_top.proofs.LabelBlock.{same_label, IsLabelOf-fits}
 
 -- drive 0 has one label, and it says another code

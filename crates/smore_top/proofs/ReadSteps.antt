@@ -1,13 +1,13 @@
 -- Reading a request: its length, and then its body.
-use Rattle.std.proofs.Common.{◌≡◌, ℕ, ◌+◌, ◌<◌, ◌≤◌, List, [], ◌++◌, length, take, drop, Option, Some, None, Result, Ok, Err, arith, refl, sym, ap, subst, ◌∙◌, append_assoc, length-append, length-take}
+use Rattle.std.proofs.Common.{◌≡◌, ℕ, ◌<◌, ◌≤◌, List, ◌++◌, length, take, Option, Some, None, Ok, Err, arith, sym, ap, subst, ◌∙◌, append_assoc, length-append, length-take}
 use Rattle.std.specs.Int.{w32, to_be_bytes, from_be_bytes}
-use Rattle.std.proofs.lemmas.List.{take_all, append-nil}
+use Rattle.std.proofs.lemmas.List.{take_all}
 use Rattle.zone_bay.specs.declared.failed.Failed.{Failed}
 use Rattle.zone_bay.specs.Outside.{Told}
 use Rattle.zone_bay.proofs.Tells.{Told-then}
 use Rattle.smore_top.specs.declared.request.Request.{Request}
 use Rattle.smore_top.specs.declared.request_frame.ReadFault.TheVariants.{Memory, Failed as SourceFailed, BadFrame}
-use Rattle.smore_top.specs.Frames.{IsSpelledBy, Spells, StartsNoFrame}
+use Rattle.smore_top.specs.Frames.{IsSpelledBy, StartsNoFrame}
 use Rattle.smore_top.specs.Reading.{request_in, Fills, ReadsRequest}
 use Rattle.smore_top.proofs.FrameLaws.{none_part, none_body, whole_frame}
 
@@ -23,21 +23,20 @@ module _ (left0 left1 left2 : Option (List ℕ)) (header buffer : List ℕ) (cou
   -- the source failed within the body
   pub read_failed : (e : Failed) → Told left1 left2 (Fills room (Err e) buffer) → Told left0 left2 (ReadsRequest (Err SourceFailed))
   read_failed e then = Told-then left0 left1 left2 _ _ _ first then (λ before mid after p q.
-    let head = after_header header before mid count four whole p.0 in
-    (header ++ q.0, after_part header q.0 before mid after head q.1, none_part header q.0 four (omega (arith, q.2, long))))
+      let head = after_header header before mid count four whole p.0 in
+      (header ++ q.0, after_part header q.0 before mid after head q.1, none_part header q.0 four (omega (arith, q.2, long))))
 
   -- the body ends too early
   pub read_cut : (got : ℕ) → got < room → Told left1 left2 (Fills {E = Failed} room (Ok got) buffer) → Told left0 left2 (ReadsRequest (Err BadFrame))
   read_cut got short then = Told-then left0 left1 left2 _ _ _ first then (λ before mid after p q.
-    let head = after_header header before mid count four whole p.0 in
-    let ended = q.1 short in
-    let little : length mid < from_be_bytes w32 header = omega (arith, ap length q.0, length-append (take got buffer) after, length-take got buffer, ap length ended, long, short) in
-    (
-      header ++ take got buffer,
-      after_part header (take got buffer) before mid after head q.0,
-      subst StartsNoFrame (sym head) (none_part header mid four little),
-      omega (arith, ap length head, length-append header mid, four),
-    ))
+      let head = after_header header before mid count four whole p.0 in
+      let ended = q.1 short in
+      let little : length mid < from_be_bytes w32 header = omega (arith, ap length q.0, length-append (take got buffer) after, length-take got buffer, ap length ended, long, short) in (
+        header ++ take got buffer,
+        after_part header (take got buffer) before mid after head q.0,
+        subst StartsNoFrame (sym head) (none_part header mid four little),
+        omega (arith, ap length head, length-append header mid, four),
+      ))
 
   module _ (got : ℕ) (body : List ℕ) (enough : room ≤ got) (size : length buffer ≡ room) (is : body ≡ buffer) (then : Told left1 left2 (Fills {E = Failed} room (Ok got) buffer)) where
     taken : (mid after : List ℕ) → mid ≡ take got buffer ++ after → mid ≡ body ++ after
@@ -46,26 +45,24 @@ module _ (left0 left1 left2 : Option (List ℕ)) (header buffer : List ℕ) (cou
     -- no memory for the request
     pub read_without_memory : Told left0 left2 (ReadsRequest (Err Memory))
     read_without_memory = Told-then left0 left1 left2 _ _ _ first then (λ before mid after p q.
-      (header ++ body, after_part header body before mid after (after_header header before mid count four whole p.0) (taken mid after q.0)))
+        (header ++ body, after_part header body before mid after (after_header header before mid count four whole p.0) (taken mid after q.0)))
 
     -- the body spells no request
     pub read_bad : request_in body ≡ None → Told left0 left2 (ReadsRequest (Err BadFrame))
     read_bad none = Told-then left0 left1 left2 _ _ _ first then (λ before mid after p q.
-      let head = after_header header before mid count four whole p.0 in
-      let all = taken mid after q.0 in
-      let spelled : before ≡ header ++ (body ++ after) = head ∙ ap (λ (l : List ℕ). header ++ l) all in
-      (
-        header ++ body,
-        after_part header body before mid after head all,
-        subst StartsNoFrame (sym spelled) (none_body header body after four (ap length is ∙ size ∙ long) none),
-        omega (arith, ap length head, length-append header mid, four),
-      ))
+        let head = after_header header before mid count four whole p.0 in
+        let all = taken mid after q.0 in
+        let spelled : before ≡ header ++ (body ++ after) = head ∙ ap (λ (l : List ℕ). header ++ l) all in (
+          header ++ body,
+          after_part header body before mid after head all,
+          subst StartsNoFrame (sym spelled) (none_body header body after four (ap length is ∙ size ∙ long) none),
+          omega (arith, ap length head, length-append header mid, four),
+        ))
 
     -- it spells this request
     pub read_request_of : (r : Request) (n : ℕ) → to_be_bytes w32 n ≡ header → room ≡ n → room ≤ 16777728 → IsSpelledBy body r → Told left0 left2 (ReadsRequest (Ok (Some r)))
-    read_request_of r n head size_is small found = Told-then left0 left1 left2 _ _ _ first then (λ before mid after p q.
-      (
-        header ++ body,
-        after_part header body before mid after (after_header header before mid count four whole p.0) (taken mid after q.0),
-        whole_frame header body r n head (ap length is ∙ size ∙ size_is) (omega (arith, ap length is, size, small)) found,
-      ))
+    read_request_of r n head size_is small found = Told-then left0 left1 left2 _ _ _ first then (λ before mid after p q. (
+      header ++ body,
+      after_part header body before mid after (after_header header before mid count four whole p.0) (taken mid after q.0),
+      whole_frame header body r n head (ap length is ∙ size ∙ size_is) (omega (arith, ap length is, size, small)) found,
+    ))

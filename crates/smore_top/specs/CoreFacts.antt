@@ -1,6 +1,5 @@
 -- What the core keeps true of its bay and its counts.
-use Rattle.std.specs.Prelude.{◌≡◌, ℕ, ◌+◌, ◌*◌, ◌≤◌, List, length, Bool, true, false, Option, ⊤}
-use Rattle.smore_base.specs.declared.geometry.Geometry.{Geometry}
+use Rattle.std.specs.Prelude.{◌≡◌, ℕ, ◌*◌, ◌≤◌, List, length, Bool, true, false, Option, ⊤}
 use Rattle.zone_bay.specs.Outside.{Rose}
 use Rattle.zone_bay.specs.Bay.{Shape, Contents, with_zone, Becomes}
 use Rattle.object_machine.specs.declared.reply.Reply.{Reply}

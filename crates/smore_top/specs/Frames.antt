@@ -91,3 +91,11 @@ ops_of entries = map (λ entry. entry.op) entries
 
 abbrev pub reply_frames : List Entry → List ℕ
 reply_frames entries = flat_map (λ entry. reply_frame entry.reply) entries
+
+-- The end, or a Stop, behind which anything may stand.
+abbrev pub EndsFrames : List ℕ → Type 0
+EndsFrames rest = (rest ≡ []) ⊎ ((stop : List ℕ) × (after : List ℕ) × (rest ≡ stop ++ after) × Spells stop Stop)
+
+-- whole frames: those of calls, and then the end or a Stop
+abbrev pub AreWholeFrames : List ℕ → Type 0
+AreWholeFrames bytes = (ops : List Op) × (calls : List ℕ) × (rest : List ℕ) × (bytes ≡ calls ++ rest) × SpellsCalls calls ops × EndsFrames rest

@@ -1,5 +1,5 @@
 -- Which bays can be opened.
-use Rattle.std.specs.Prelude.{◌≡◌, ℕ, List, [], Option, Result, IfSome}
+use Rattle.std.specs.Prelude.{◌≡◌, ℕ, List, []}
 use Rattle.smore_base.specs.declared.geometry.Geometry.{Geometry}
 use Rattle.smore_base.specs.Geometry.{IsWithinLimits}
 use Rattle.zone_bay.specs.Outside.{Rose}

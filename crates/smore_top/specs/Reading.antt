@@ -1,8 +1,6 @@
 -- How the bytes of a frame's body are read, and what reading takes from a source.
 use Rattle.std.specs.Prelude.{◌≡◌, ℕ, ◌<◌, nat_lt, ◌==◌, List, [], ◌∷◌, ◌++◌, length, take, drop, Option, Some, None, Result, Ok, Err, option_and_then, if◌then◌else◌}
-use Rattle.std.specs.Option.{option_map}
 use Rattle.std.specs.Int.{w16, from_be_bytes}
-use Rattle.zone_bay.specs.declared.failed.Failed.{Failed}
 use Rattle.object_machine.specs.declared.op.Op.TheVariants.{Put, Get}
 use Rattle.smore_top.specs.declared.request.Request.{Request}
 use Rattle.smore_top.specs.declared.request.Request.TheVariants.{Call, Stop}

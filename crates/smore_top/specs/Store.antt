@@ -34,14 +34,14 @@ pub record Accepts (room shard : ℕ) (name object : List ℕ) : Type 0 where
 -- drive 0 is lost when the answer comes. Each answer has its cause here.
 abbrev pub Cause : (List ℕ → Type 0) → ℕ → ℕ → Type 0 → Op → Reply → Type 0
 Cause has room shard lost (Put name object) Done = Accepts room shard name object × (lost → ⊥)
-Cause has room shard lost (Put name object) (Refused Memory) = IsName name
+Cause has room shard lost (Put name object) (Refused Memory) = Accepts room shard name object × (lost → ⊥)
 Cause has room shard lost (Put name object) (Refused (NameBad n)) = (IsName name → ⊥) × (n ≡ length name)
 Cause has room shard lost (Put name object) (Refused (TooLarge n)) = IsName name × (shard < length object) × (n ≡ length object)
 Cause has room shard lost (Put name object) (Refused (Full need left)) = IsName name × (length object ≤ shard) × (room < blocks_of (length object)) × (need ≡ 1) × (left ≡ 0)
 Cause has room shard lost (Put name object) (Refused (TooFewFragments of_set missing)) = Accepts room shard name object × lost × (of_set ≡ 1) × (missing ≡ 2)
 Cause has room shard lost (Get name) (Object bytes) = has name × (lost → ⊥)
 Cause has room shard lost (Get name) NotFound = IsName name × (has name → ⊥)
-Cause has room shard lost (Get name) (Refused Memory) = has name
+Cause has room shard lost (Get name) (Refused Memory) = has name × (lost → ⊥)
 Cause has room shard lost (Get name) (Refused (NameBad n)) = (IsName name → ⊥) × (n ≡ length name)
 Cause has room shard lost (Get name) (Refused (TooFewFragments of_set missing)) = has name × lost × (of_set ≡ 1) × (missing ≡ 2)
 -- no other answer comes

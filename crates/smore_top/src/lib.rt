@@ -1,6 +1,7 @@
 //! The top of the store: where requests come from and replies go to, and the calls that the program makes.
 #![tactic(auto)]
 
+mod batch;
 mod bay_label;
 mod blocks;
 mod calls;
@@ -19,6 +20,7 @@ mod store_core;
 mod stored;
 mod words;
 
+pub use batch::{Outcome, run_batch};
 pub use format::FormatFailed;
 pub use label::{Label, read_label, write_label};
 pub use memory_sink::MemorySink;
@@ -31,3 +33,5 @@ pub use source::Source;
 pub use store_core::Core;
 pub use words::Words;
 
+#[cfg(test)]
+mod tests;

@@ -1,4 +1,3 @@
-use Rattle.std.proofs.Common.{arith, refl}
 use Rattle.std.proofs.lemmas.Nat.{be_bytes_4}
 use Rattle.smore_top.proofs.request_frame.body_length.Goals as goal
 

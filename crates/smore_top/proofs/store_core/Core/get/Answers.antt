@@ -40,7 +40,7 @@ pub returns-in_default-vec-clause-works : goal.returns-in_default-vec-clause-wor
 returns-in_default-vec-clause-works g c = works_none _ _ _ _ _ _ _
 
 pub returns-in_default-vec-clause-move_ : goal.returns-in_default-vec-clause-move_
-returns-in_default-vec-clause-move_ g c = rw c.refused-in_default-vec.ensures (told_same _ _ _ _ _ refl (λ held is. get_memory _ _ _ _ _ _ (c.args.self.now.zone held is) c.args.self.now.kept _ (has g (goal.at.returns-in_default-vec-clause-move_ g c).In-Some)))
+returns-in_default-vec-clause-move_ g c = rw c.refused-in_default-vec.ensures (told_same _ _ _ _ _ refl (λ held is. get_memory _ _ _ _ _ _ (c.args.self.now.zone held is) c.args.self.now.kept _ (has g (goal.at.returns-in_default-vec-clause-move_ g c).In-Some) c.if-self.false))
 
 pub read_object-requires-clause-few : goal.read_object-requires-clause-few
 read_object-requires-clause-few g c =

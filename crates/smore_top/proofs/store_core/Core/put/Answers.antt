@@ -10,7 +10,7 @@ use Rattle.smore_top.specs.Index.{IsKept}
 use Rattle.smore_top.specs.Store.{Accepts}
 use Rattle.smore_top.proofs.BlockLaws.{length-blocks_from}
 use Rattle.smore_top.proofs.CoreLaws.{works_none, works_ok, works_err, told_same, told_becomes, zone2_in_part, zone2_appended, used_stay, zone_holds, kept_more, if_some}
-use Rattle.smore_top.proofs.MoveLaws.{put_still_lost, put_lost_as, put_done_as}
+use Rattle.smore_top.proofs.MoveLaws.{put_still_lost, put_lost_as, put_done_as, put_memory}
 use Rattle.smore_top.proofs.store_core.Core.put.Goals as goal
 use Rattle.smore_top.proofs.store_core.Core.put.Goals.{Else-blocks-self, In-Ok-append_firm, After-unwrap}
 
@@ -41,6 +41,12 @@ returns-then-is_err-clause-works g c = works_none _ _ _ _ _ _ _
 
 pub returns-then-self-clause-move_ : goal.returns-then-self-clause-move_
 returns-then-self-clause-move_ g c = told_same _ _ _ _ _ refl (λ held is. put_still_lost _ _ _ _ _ _ (c.args.self.now.zone held is) c.args.self.now.kept _ _ c.if-self.true (accepts g (goal.at.returns-then-self-clause-move_ g c).Else-blocks-self))
+
+pub returns-in_default-clause-move_ : goal.returns-in_default-clause-move_
+returns-in_default-clause-move_ g c = rw c.refused-in_default.ensures (told_same _ _ _ _ _ refl (λ held is. put_memory _ _ _ _ _ _ (c.args.self.now.zone held is) c.args.self.now.kept _ _ (accepts g (goal.at.returns-in_default-clause-move_ g c).Else-blocks-self) c.if-self.false))
+
+pub returns-then-is_err-clause-move_ : goal.returns-then-is_err-clause-move_
+returns-then-is_err-clause-move_ g c = rw c.refused-then-is_err.ensures (rw c.reserve.ensures.items (told_same _ _ _ _ _ refl (λ held is. put_memory _ _ _ _ _ _ (c.args.self.now.zone held is) c.args.self.now.kept _ _ (accepts g (goal.at.returns-then-is_err-clause-move_ g c).Else-blocks-self) c.if-self.false)))
 
 pub append_firm-requires-clause-fits : goal.append_firm-requires-clause-fits
 append_firm-requires-clause-fits g c =
