@@ -16,3 +16,6 @@ pub use limits::{
 };
 pub use memory::Memory;
 pub use name::{Name, NameBad};
+
+#[cfg(test)]
+mod tests;
