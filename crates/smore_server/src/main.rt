@@ -1,42 +1,40 @@
-//! The program of the store. So far it only copies its input to its output.
+//! The program of the store. So far it answers one batch, over a new array that it holds in memory.
 #![tactic(auto)]
 
+mod array;
 mod std_sink;
 mod std_source;
 
-use smore_top::{Sink, Source};
+use array::StartFault;
+use smore_base::Memory;
+use smore_top::{Words, run_batch};
+use std::alloc::Global;
 use std::process::ExitCode;
 use std_sink::StdSink;
 use std_source::StdSource;
-use zone_bay::Failed;
 
-fn put_all<K: Sink>(sink: &mut K, bytes: &[u8]) -> Result<(), Failed> {
-    let mut rest = bytes;
-    while !rest.is_empty() {
-        let count = sink.put(rest)?;
-        rest = &rest[count..];
-    }
-    Ok(())
+/// The command line that is run: the array stands for the folder.
+fn batch_words(alloc: Global) -> Result<Words, Memory> {
+    let mut words = Words::new(alloc);
+    words.append_word("batch")?;
+    words.append_word("memory")?;
+    Ok(words)
 }
 
-fn copy<S: Source, K: Sink>(source: &mut S, sink: &mut K) -> Result<(), Failed> {
-    let mut buffer = [0; 512];
-    for _ in 0..u64::MAX {
-        let count = source.take(&mut buffer)?;
-        if count == 0 {
-            break;
-        }
-        put_all(sink, &buffer[..count])?;
-    }
-    Ok(())
+/// Answers the requests of the standard input on the standard output, and tells the status.
+fn run(rt: &HostRuntime) -> Result<u8, StartFault> {
+    let alloc = rt.alloc();
+    let words = batch_words(alloc)?;
+    let bay = array::formatted(alloc)?;
+    let mut source = StdSource::new(rt.stdin());
+    let mut sink = StdSink::new(rt.stdout());
+    let (outcome, _bay) = run_batch(alloc, &words, &mut source, &mut sink, bay);
+    Ok(outcome.status)
 }
 
 fn main(rt: HostRuntime) -> ExitCode {
-    match copy(
-        &mut StdSource::new(rt.stdin()),
-        &mut StdSink::new(rt.stdout()),
-    ) {
-        Ok(()) => ExitCode::SUCCESS,
-        Err(Failed) => ExitCode::from(3),
+    match run(&rt) {
+        Ok(status) => ExitCode::from(status),
+        Err(fault) => ExitCode::from(fault.status()),
     }
 }
