@@ -18,6 +18,7 @@ use Rattle.object_machine.specs.declared.reply.Reply.{Reply}
 use Rattle.object_machine.specs.declared.machine.Entry.{Entry}
 use Rattle.object_machine.specs.State.{IsLost}
 use Rattle.object_machine.specs.History.{IsLegalHistory}
+use Rattle.object_machine.proofs.HistoryLaws.{legal_more}
 use Rattle.smore_top.specs.declared.stored.Stored.{Stored}
 use Rattle.smore_top.specs.declared.request.Request.{Request}
 use Rattle.smore_top.specs.declared.request.Request.TheVariants.{Call, Stop}
@@ -41,11 +42,7 @@ told_from None b P x told is = absurd (none-some x is)
 told_from (Some w) None P x told is = absurd told
 told_from (Some w) (Some y) P x told is = (y, refl, subst (λ v. P v y) (same_Some w x is) told)
 
--- Histories, calls and replies with one entry more.
-legal_more : {S : Type 0} (moves : S → Op → Reply → S → Type 0) (from to next : S) (entries : List Entry) (entry : Entry) → IsLegalHistory moves from entries to → moves to entry.op entry.reply next → IsLegalHistory moves from (entries ++ entry ∷ []) next
-legal_more moves from to next [] entry legal move = (next, subst (λ s. moves s entry.op entry.reply next) legal move, refl)
-legal_more moves from to next (first ∷ entries) entry legal move = (legal.0, legal.1, legal_more moves legal.0 to next entries entry legal.2 move)
-
+-- Calls and replies with one entry more.
 spells_more : (bytes front : List ℕ) (ops : List Op) (op : Op) → SpellsCalls bytes ops → Spells front (Call op) → SpellsCalls (bytes ++ front) (ops ++ op ∷ [])
 spells_more bytes front [] op spelled last = (front, [], ap (λ (l : List ℕ). l ++ front) spelled ∙ sym (append-nil front), last, refl)
 spells_more bytes front (first ∷ ops) op spelled last = (spelled.0, spelled.1 ++ front, ap (λ (l : List ℕ). l ++ front) spelled.2 ∙ append_assoc spelled.0 spelled.1 front, spelled.3, spells_more spelled.1 front ops op spelled.4 last)
