@@ -3,13 +3,14 @@ ghost use Rattle.std.specs.Prelude.{◌≡◌, ℕ, ◌+◌, ◌*◌, ◌<◌, �
 ghost use Rattle.zone_bay.specs.Bay.{AreCallsOn, Becomes, appended, BecomesInPart};
 ghost use Rattle.smore_top.specs.Blocks.{blocks_of, data_blocks, object_at};
 
-use smore_base::CONTENT_BYTES;
+use smore_base::{BLOCK_BYTES, CONTENT_BYTES};
 use std::alloc::{AllocError, Global};
 use zone_bay::{Bay, Failed};
 
-const BLOCK: usize = 512;
+const BLOCK: usize = BLOCK_BYTES as usize;
 
-const CONTENT: usize = 511;
+/// The bytes of an object that a block has at most.
+pub(crate) const CONTENT: usize = CONTENT_BYTES as usize;
 
 // The tag of a block that has bytes of an object.
 const DATA: u8 = 2;

@@ -9,7 +9,7 @@ ghost use Rattle.smore_top.specs.Opening.{OpensWith, OpensOnlyAtFault};
 ghost use Rattle.smore_top.specs.Index.{IsKept, HasEntry};
 ghost use Rattle.smore_top.specs.Store.{Cause, Move, told_store};
 
-use crate::blocks::{append_firm, data_blocks, read_object};
+use crate::blocks::{CONTENT, append_firm, data_blocks, read_object};
 use crate::newest::newest;
 use crate::opening::{OpenRefusal, openable};
 use crate::stored::Stored;
@@ -105,7 +105,7 @@ impl<B: Bay> Core<B> {
                 length: length as u64,
             });
         }
-        let blocks = length.div_ceil(511) as u32;
+        let blocks = length.div_ceil(CONTENT) as u32;
         if blocks > self.geometry.blocks - self.used {
             return refused(Refusal::Full { need: 1, room: 0 });
         }
