@@ -3,6 +3,7 @@ ghost use Rattle.zone_bay.specs.Bay.{AreCallsOn};
 ghost use Rattle.smore_top.specs.declared.label.Label.{Label as LabelSeen};
 ghost use Rattle.smore_top.specs.Label.{IsLabel, IsOfBay, IsLabelOf, BeginsWith, BeginsWithNone, HasLabel, HasNoLabel, label_block};
 
+use crate::blocks::BLOCK;
 use crate::label::{LABEL_BYTES, Label, read_label};
 use smore_base::{BLOCK_BYTES, Geometry};
 use zone_bay::{Bay, Failed};
@@ -53,7 +54,7 @@ fn is_label_of(label: &Label, device: u8, devices: u8, zones: u16, blocks: u32) 
 }
 
 /// The first block of the device, or `None` where it holds fewer bytes.
-fn first_block<B: Bay>(bay: &mut B, device: u8) -> Result<Option<[u8; 512]>, Failed>
+fn first_block<B: Bay>(bay: &mut B, device: u8) -> Result<Option<[u8; BLOCK]>, Failed>
     requires device_in { device < (B.shape bay.old).devices }
     requires zone_in { 0 < (B.shape bay.old).zones }
     ensures block { IfSome (B.contents bay.old) (λ held. IfOk result (λ block. MatchOption block
@@ -66,7 +67,7 @@ fn first_block<B: Bay>(bay: &mut B, device: u8) -> Result<Option<[u8; 512]>, Fai
     if bay.written(device, 0)? < BLOCK_BYTES {
         return Ok(None);
     }
-    let mut block = [0; 512];
+    let mut block = [0; BLOCK];
     bay.read(device, 0, 0, &mut block)?;
     Ok(Some(block))
 }

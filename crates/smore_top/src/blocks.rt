@@ -7,7 +7,8 @@ use smore_base::{BLOCK_BYTES, CONTENT_BYTES};
 use std::alloc::{AllocError, Global};
 use zone_bay::{Bay, Failed};
 
-const BLOCK: usize = BLOCK_BYTES as usize;
+/// Bytes of a block.
+pub(crate) const BLOCK: usize = BLOCK_BYTES as usize;
 
 /// The bytes of an object that a block has at most.
 pub(crate) const CONTENT: usize = CONTENT_BYTES as usize;

@@ -6,6 +6,7 @@ ghost use Rattle.smore_top.specs.Label.{IsOfBay, label_of, label_block};
 ghost use Rattle.smore_top.specs.Format.{ZoneHolds, AreEmptied, DeviceHolds, IsFormatted};
 
 use crate::bay_label::{LABEL_TAG, VERSION};
+use crate::blocks::BLOCK;
 use crate::label::{LABEL_BYTES, Label, write_label};
 use crate::store_core::Core;
 use smore_base::Geometry;
@@ -19,10 +20,10 @@ pub struct FormatFailed {
     pub device: u8,
 }
 
-fn block_of(label: &Label) -> [u8; 512]
+fn block_of(label: &Label) -> [u8; BLOCK]
     ensures { result ≡ label_block label.now }
 {
-    let mut block = [0; 512];
+    let mut block = [0; BLOCK];
     block[0] = LABEL_TAG;
     write_label(label, &mut block[1..1 + LABEL_BYTES]);
     block
