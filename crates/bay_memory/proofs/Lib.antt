@@ -1,2 +1,9 @@
+pub mod Calls
+pub mod Copies
+pub mod Devices
+pub mod Failures
+pub mod Kept
+pub mod Past
+pub mod Takes
+pub mod Timeline
 pub mod Zones
-pub mod Contents

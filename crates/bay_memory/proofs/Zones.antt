@@ -1,52 +1,81 @@
--- A write to a vector of zones, as a change of the lists.
-use Rattle.std.proofs.Common.{◌≡◌, ℕ, ◌<◌, List, [], ◌++◌, length, get_or, set, Vec, sym, ◌∙◌, ap, arith, replicate, cond, Result, Ok, Err}
-use Rattle.std.specs.Result.{is_ok, OnOk, OnErr}
-use Rattle.std.proofs.lemmas.List.{map-set, get_or-map, set-get_or, length-map, length-replicate, with_items_is}
-use Rattle.std.specs.Vec.{with_item, with_items}
-use Rattle.std.specs.declared.alloc.Global.{Global}
-use Rattle.bay_memory.specs.Held.{bytes_of, zones_of, zone_in, with_zone_as}
+-- A change of one zone, as a change of the tracks of its device.
+use Rattle.std.proofs.Common.{Bool, true, false, ◌≡◌, ℕ, ◌+◌, ◌<◌, ◌≤◌, ◌==◌, List, length, get_or, set, map, cond, refl, sym, subst, ◌∙◌, ap, arith, inl, inr}
+use Rattle.std.proofs.lemmas.List.{get_or-set_same, get_or-set_other, get_or-map, map-set, set-get_or, length-map, length-set, get_or_past}
+use Rattle.std.proofs.lemmas.Bool.{cases_eq, cases_lt, eq-eqb, ne_eqb}
+use Rattle.bay_memory.specs.declared.zone.Zone.{Zone}
+use Rattle.bay_memory.specs.Past.{State, Track, IsSteady, Goes, blank_track}
+use Rattle.bay_memory.specs.Zone.{track_of}
+use Rattle.bay_memory.specs.Device.{track_in, AreSteady, at_zone, ZonesGo}
 
--- a zone that is written as it was
-pub unchanged : (held : List (List (List ℕ))) (device zone : ℕ) → with_zone_as device zone (zone_in held device zone) held ≡ held
-unchanged held device zone = ap (λ (l : List (List ℕ)). set held device l) (set-get_or (get_or held device []) zone []) ∙ set-get_or held device []
+-- what stands at a place of a list after a write at a place
+pub set_read : {A : Type 0} (l : List A) (i : ℕ) (a : A) (j : ℕ) (d : A) → i < length l → get_or (set l i a) j d ≡ cond (j == i) a (get_or l j d)
+set_read l i a j d within = elim (cases_eq j i) [
+  | inl same ↦ rw (eq-eqb j i same, same) (get_or-set_same l i a d within)
+  | inr other ↦ rw (ne_eqb j i other) (get_or-set_other l i j a d other)
+]
 
-module _ (held : List (Vec (Vec ℕ Global) Global)) (device : ℕ) (zones : Vec (Vec ℕ Global) Global) (in_range : device < length (zones_of held)) (is : zones ≡ get_or held device zones) where
-  -- the device's zones, as lists
-  pub at_device : get_or (zones_of held) device [] ≡ bytes_of zones.items
-  at_device = get_or-map (λ (v : Vec (Vec ℕ Global) Global). bytes_of v.items) held device zones [] (omega (arith, length-map held (λ (v : Vec (Vec ℕ Global) Global). bytes_of v.items))) ∙ ap (λ (v : Vec (Vec ℕ Global) Global). bytes_of v.items) (sym is)
+-- a choice of two changes
+pub choice_true : {A : Type 0} (b : Bool) (f g : A → A) → b ≡ true → (λ a. cond b (f a) (g a)) ≡ f
+choice_true {A = A} b f g is = ap {B = A → A} (λ b a. cond b (f a) (g a)) is
 
-  pub at_zone : (z : ℕ) (zone : Vec ℕ Global) → z < length (get_or (zones_of held) device []) → zone ≡ get_or zones.items z zone → zone_in (zones_of held) device z ≡ zone.items
-  at_zone z zone within read =
-      ap (λ (l : List (List ℕ)). get_or l z []) at_device
-      ∙ get_or-map (λ (v : Vec ℕ Global). v.items) zones.items z zone [] (omega (arith, ap length at_device, length-map zones.items (λ (v : Vec ℕ Global). v.items)))
-      ∙ ap (λ (v : Vec ℕ Global). v.items) (sym read)
+pub choice_false : {A : Type 0} (b : Bool) (f g : A → A) → b ≡ false → (λ a. cond b (f a) (g a)) ≡ g
+choice_false {A = A} b f g is = ap {B = A → A} (λ b a. cond b (f a) (g a)) is
 
-  pub written : (z : ℕ) (zone : Vec ℕ Global) → zones_of (set held device (with_item zones z zone)) ≡ with_zone_as device z zone.items (zones_of held)
-  written z zone =
-      map-set (λ (v : Vec (Vec ℕ Global) Global). bytes_of v.items) held device (with_item zones z zone)
-      ∙ ap (λ (l : List (List ℕ)). set (zones_of held) device l) (map-set (λ (v : Vec ℕ Global). v.items) zones.items z zone ∙ ap (λ (l : List (List ℕ)). set l z zone.items) (sym at_device))
+-- a zone of which nothing is changed
+pub goes_unchanged : (moment : ℕ) (track : Track) → IsSteady moment track → Goes moment (λ state. state) track track
+goes_unchanged moment track steady = record { changed = refl; until = λ m h. refl; since = λ m later i was within. let h = steady i was within in omega arith }
 
-  pub extended : (z : ℕ) (zone now : Vec ℕ Global) (more : List ℕ) → z < length (get_or (zones_of held) device []) → zone ≡ get_or zones.items z zone → now.items ≡ zone.items ++ more → zones_of (set held device (with_item zones z now)) ≡ with_zone_as device z (zone_in (zones_of held) device z ++ more) (zones_of held)
-  extended z zone now more within read is =
-      written z now ∙ ap (λ (l : List ℕ). with_zone_as device z l (zones_of held)) (is ∙ ap (λ (l : List ℕ). l ++ more) (sym (at_zone z zone within read)))
+module _ (zones : List Zone) (z : ℕ) (old : Zone) (in_range : z < length (map track_of zones)) (is : old ≡ get_or zones z old) where
+  pub track_read : track_in (map track_of zones) z ≡ track_of old
+  track_read = get_or-map track_of zones z old blank_track (omega (arith, length-map zones track_of)) ∙ ap track_of (sym is)
 
-  pub left_alone : (z : ℕ) (zone now : Vec ℕ Global) → z < length (get_or (zones_of held) device []) → zone ≡ get_or zones.items z zone → now.items ≡ zone.items → zones_of (set held device (with_item zones z now)) ≡ zones_of held
-  left_alone z zone now within read is =
-      written z now ∙ ap (λ (l : List ℕ). with_zone_as device z l (zones_of held)) (is ∙ sym (at_zone z zone within read)) ∙ unchanged (zones_of held) device z
+  pub track_set : (new : Zone) (y : ℕ) → track_in (map track_of (set zones z new)) y ≡ cond (y == z) (track_of new) (track_in (map track_of zones) y)
+  track_set new y = ap (λ (l : List Track). get_or l y blank_track) (map-set track_of zones z new) ∙ set_read (map track_of zones) z (track_of new) y blank_track in_range
 
-  pub emptied_all : (now : List (Vec ℕ Global)) → bytes_of now ≡ replicate (length zones.items) [] → zones_of (set held device (with_items zones now)) ≡ set (zones_of held) device (replicate (length (get_or (zones_of held) device [])) [])
-  emptied_all now is =
-      let f = λ (v : Vec ℕ Global). v.items in
-      let same : length now ≡ zones.len = omega (arith, zones.ok.0, length-map now f, ap length is, length-replicate {A = List ℕ} (length zones.items) []) in
-      let count : length zones.items ≡ length (get_or (zones_of held) device []) = omega (arith, ap length at_device, length-map zones.items f) in
-      map-set (λ (v : Vec (Vec ℕ Global) Global). bytes_of v.items) held device (with_items zones now)
-      ∙ ap (λ (l : List (List ℕ)). set (zones_of held) device l) (ap bytes_of (with_items_is zones now same) ∙ is ∙ ap (λ (n : ℕ). replicate {A = List ℕ} n []) count)
+  pub tracks_kept : (new : Zone) → track_of new ≡ track_of old → map track_of (set zones z new) ≡ map track_of zones
+  tracks_kept new same = map-set track_of zones z new ∙ ap (λ (t : Track). set (map track_of zones) z t) (same ∙ sym track_read) ∙ set-get_or (map track_of zones) z blank_track
 
--- what `extend_from_slice` says, by its answer
-pub added : {T E : Type 0} (r : Result T E) (was now more : List ℕ) → now ≡ cond (is_ok r) (was ++ more) was → OnOk r (now ≡ was ++ more)
-added (Ok x) was now more is = is
-added (Err e) was now more is = tt
+  pub tracks_go : (new : Zone) (moment : ℕ) (change : State → State) → AreSteady moment (map track_of zones) → Goes moment change (track_of old) (track_of new) → ZonesGo moment (at_zone z change) (map track_of zones) (map track_of (set zones z new))
+  tracks_go new moment change steady goes = record { count = ap length (map-set track_of zones z new) ∙ length-set (map track_of zones) z (track_of new); each = each }
+    where
+      each : (y : ℕ) → Goes moment (at_zone z change y) (track_in (map track_of zones) y) (track_in (map track_of (set zones z new)) y)
+      each y = subst (λ (t : Track). Goes moment (at_zone z change y) (track_in (map track_of zones) y) t) (sym (track_set new y)) (elim (cases_eq y z) [
+        | inl same ↦ here same
+        | inr other ↦ subst (λ (f : State → State). Goes moment f (track_in (map track_of zones) y) (cond (y == z) (track_of new) (track_in (map track_of zones) y))) (sym (choice_false (y == z) change (λ state. state) (ne_eqb y z other))) (rw (ne_eqb y z other) (goes_unchanged moment (track_in (map track_of zones) y) (steady y)))
+      ])
+        where
+          here : y ≡ z → Goes moment (at_zone z change y) (track_in (map track_of zones) y) (cond (y == z) (track_of new) (track_in (map track_of zones) y))
+          here same = subst (λ (f : State → State). Goes moment f (track_in (map track_of zones) y) (cond (y == z) (track_of new) (track_in (map track_of zones) y))) (sym (choice_true (y == z) change (λ state. state) (eq-eqb y z same))) (rw (eq-eqb y z same, same, track_read) goes)
 
-pub stayed : {T E : Type 0} (r : Result T E) (was now more : List ℕ) → now ≡ cond (is_ok r) (was ++ more) was → OnErr r (now ≡ was)
-stayed (Ok x) was now more is = tt
-stayed (Err e) was now more is = is
+  pub track_steady : (moment : ℕ) → AreSteady moment (map track_of zones) → IsSteady moment (track_of old)
+  track_steady moment steady = subst (λ (t : Track). IsSteady moment t) track_read (steady z)
+
+-- one more zone of all is changed
+module _ (moment index : ℕ) (change : State → State) (first zones : List Zone) (old new : Zone) (count : length zones ≡ length first) (in_range : index < length zones) (is : old ≡ get_or zones index old) (changed : (z : ℕ) → z < index → Goes moment change (track_in (map track_of first) z) (track_in (map track_of zones) z)) (rest : (z : ℕ) → index ≤ z → track_in (map track_of zones) z ≡ track_in (map track_of first) z) (now_goes : Goes moment change (track_of (get_or zones index old)) (track_of new)) where
+  goes : Goes moment change (track_of old) (track_of new)
+  goes = subst (λ (z : Zone). Goes moment change (track_of z) (track_of new)) (sym is) now_goes
+
+  within : index < length (map track_of zones)
+  within = omega (arith, length-map zones track_of)
+
+  pub more_changed : (z : ℕ) → z < index + 1 → Goes moment change (track_in (map track_of first) z) (track_in (map track_of (set zones index new)) z)
+  more_changed z h = subst (λ (t : Track). Goes moment change (track_in (map track_of first) z) t) (sym (track_set zones index old within is new z)) (elim (cases_eq z index) [
+    | inl same ↦ rw (eq-eqb z index same, same) (subst (λ (t : Track). Goes moment change t (track_of new)) (sym (track_read zones index old within is) ∙ rest index (omega arith)) goes)
+    | inr other ↦ rw (ne_eqb z index other) (changed z (omega (arith, other)))
+  ])
+
+  pub rest_left : (z : ℕ) → index + 1 ≤ z → track_in (map track_of (set zones index new)) z ≡ track_in (map track_of first) z
+  rest_left z h = track_set zones index old within is new z ∙ rw (ne_eqb z index (λ same. omega arith)) (rest z (omega arith))
+
+  pub steady_there : AreSteady moment (map track_of first) → IsSteady moment (track_of old)
+  steady_there steady = subst (λ (t : Track). IsSteady moment t) (sym (rest index (omega arith)) ∙ track_read zones index old within is) (steady index)
+
+-- all are changed
+pub all_changed : (moment : ℕ) (change : State → State) (first zones : List Zone) → length zones ≡ length first → ((z : ℕ) → z < length first → Goes moment change (track_in (map track_of first) z) (track_in (map track_of zones) z)) → Goes moment change blank_track blank_track → ZonesGo moment (λ _. change) (map track_of first) (map track_of zones)
+all_changed moment change first zones count changed none = record {
+  count = omega (arith, length-map zones track_of, length-map first track_of, count);
+  each = λ z. elim (cases_lt z (length first)) [
+    | inl within ↦ changed z within
+    | inr past ↦ rw (get_or_past (map track_of first) z blank_track (omega (arith, length-map first track_of)), get_or_past (map track_of zones) z blank_track (omega (arith, length-map zones track_of, count))) none
+  ];
+}

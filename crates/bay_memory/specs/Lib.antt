@@ -1,2 +1,10 @@
-pub mod Held
+pub mod Array
+pub mod Copies
+pub mod Device
+pub mod Image
+pub mod Keep
+pub mod Laws
 pub mod MemoryBay
+pub mod Past
+pub mod Views
+pub mod Zone

@@ -1,24 +1,43 @@
 -- What a bay in memory tells, and which of its calls fail.
-use Rattle.std.specs.Prelude.{◌≡◌, ◌≢◌, ◌⊎◌, ℕ, ◌≤◌, List, [], Contains, slice_index, Option, Some, Result, MatchResult}
-use Rattle.zone_bay.specs.Bay.{Contents, Shape}
+use Rattle.std.specs.Prelude.{◌≡◌, ◌≢◌, ◌⊎◌, ℕ, ◌+◌, ◌<◌, ◌≤◌, Bool, false, true, List, [], Contains, take, Option, None, Some, option_map, Result, MatchResult, OnOk, OnErr}
+use Rattle.zone_bay.specs.Bay.{Contents, Shape, appended}
+use Rattle.zone_bay.specs.Images.{Lengths, IsImage}
+use Rattle.zone_bay.specs.Moments.{Instant, Between, During, moment_of}
 use Rattle.zone_bay.specs.Outside.{last, counted}
-use Rattle.bay_memory.specs.Held.{zones_of, zone_in}
+use Rattle.bay_memory.specs.Past.{held_at}
+use Rattle.bay_memory.specs.Device.{View, NotesFailure, KeepsFailures}
+use Rattle.bay_memory.specs.Array.{view_at, track_at, contents_in, firm_in, failed_in, lost_in, KeepsTracks}
+use Rattle.bay_memory.specs.Views.{views_of, shape_of}
+use Rattle.bay_memory.specs.Image.{image_shape, image_bytes}
+use Rattle.bay_memory.specs.declared.asked.Asked.{Asked}
 use Rattle.bay_memory.specs.declared.memory_bay.MemoryBay.{MemoryBay}
 
-abbrev pub shape_of : MemoryBay → Shape
-shape_of bay = record { devices = bay.devices; zones = bay.zones; blocks = bay.blocks }
+abbrev pub bay_views : MemoryBay → List View
+bay_views bay = views_of bay.array
+
+abbrev pub bay_shape : MemoryBay → Shape
+bay_shape bay = shape_of bay.array
 
 abbrev pub contents_of : MemoryBay → Contents
-contents_of bay device zone = zone_in (zones_of bay.held.items) device zone
+contents_of bay = contents_in (bay_views bay)
 
 abbrev pub told : MemoryBay → Option Contents
 told bay = Some (contents_of bay)
 
-abbrev pub faults_of : MemoryBay → ℕ → ℕ
-faults_of bay device = slice_index bay.faults.items device
+abbrev pub firm_of : MemoryBay → Lengths
+firm_of bay = firm_in (bay_views bay)
 
-abbrev pub moment_of : MemoryBay → ℕ
-moment_of bay = bay.moment
+abbrev pub faults_of : MemoryBay → ℕ → ℕ
+faults_of bay device = (view_at (bay_views bay) device).faults
+
+abbrev pub failed_of : MemoryBay → ℕ → ℕ → Type 0
+failed_of bay = failed_in (bay_views bay)
+
+abbrev pub lost_of : MemoryBay → ℕ → Bool
+lost_of bay = lost_in (bay_views bay)
+
+abbrev pub bay_moment : MemoryBay → ℕ
+bay_moment bay = bay.moment
 
 abbrev pub reads_of : MemoryBay → ℕ
 reads_of bay = bay.reads
@@ -27,42 +46,92 @@ reads_of bay = bay.reads
 abbrev pub listed_calls : MemoryBay → List ℕ
 listed_calls bay = bay.listed.items
 
--- the call that is made next is to fail
+-- what each zone held at a moment, and how much of it was firm
+abbrev pub contents_then : List View → ℕ → Contents
+contents_then views moment d z = (held_at (track_at views d z) moment).bytes
+
+abbrev pub firm_then : List View → ℕ → Lengths
+firm_then views moment d z = (held_at (track_at views d z) moment).firm
+
+-- Between two calls a crash left an image of what was held then. In a call it left that, or an image of what was held
+-- once the call was done, with no more firm than before.
+abbrev pub left_in : List View → ℕ → Instant → Contents → Type 0
+left_in views moment (Between m) image = (m ≤ moment) × IsImage (contents_then views m) (firm_then views m) image
+left_in views moment (During m) image = (m < moment) × (IsImage (contents_then views m) (firm_then views m) image ⊎ IsImage (contents_then views (m + 1)) (firm_then views m) image)
+
+abbrev pub left_of : MemoryBay → Instant → Contents → Type 0
+left_of bay = left_in (bay_views bay) bay.moment
+
+-- the call that is made next is to fail, whatever its device
 abbrev pub IsDue : MemoryBay → Type 0
-IsDue bay = (moment_of bay ≡ last) ⊎ Contains (listed_calls bay) (moment_of bay)
+IsDue bay = (bay_moment bay ≡ last) ⊎ Contains (listed_calls bay) (bay_moment bay)
 
--- the call failed exactly where it was to
-abbrev pub FailsIfDue : {T E : Type 0} → MemoryBay → Result T E → Type 0
-FailsIfDue bay result = MatchResult result (λ _. ¬ IsDue bay) (λ _. IsDue bay)
+-- or since its device is lost
+abbrev pub IsDueOn : ℕ → MemoryBay → Type 0
+IsDueOn device bay = IsDue bay ⊎ (lost_of bay device ≡ true)
 
--- nothing is held, no call was made and none is listed
-pub record IsBlank (devices zones blocks : ℕ) (bay : MemoryBay) : Type 0 where
-  pub shape : shape_of bay ≡ record { devices = devices; zones = zones; blocks = blocks }
-  pub contents : contents_of bay ≡ (λ _ _. [])
+-- the image of the call that is made next is asked for
+abbrev pub IsAsked : MemoryBay → Type 0
+IsAsked bay = (asked : Asked) × (bay.asked ≡ Some asked) × (asked.call ≡ bay_moment bay)
+
+-- The call failed where it was to, and else only where an image is asked for, for want of memory.
+abbrev pub FailsIf : {T E : Type 0} → Type 0 → MemoryBay → Result T E → Type 0
+FailsIf due bay result = MatchResult result (λ _. ¬ due) (λ _. due ⊎ IsAsked bay)
+
+-- the image that is kept: its shape and the bytes of each zone
+abbrev pub kept_of : MemoryBay → Option (Shape × Contents)
+kept_of bay = option_map (λ image. (image_shape image, image_bytes image)) bay.kept
+
+abbrev pub KeepsImage : Contents → MemoryBay → MemoryBay → Type 0
+KeepsImage image old new = kept_of new ≡ Some (bay_shape old, image)
+
+-- A call whose image is asked for keeps it: all that was held, and where it is answered so many bytes of what it
+-- appends. Where it fails for want of memory, it keeps none. Any other call leaves that as it was.
+pub record TakesImage {T E : Type 0} (device zone : ℕ) (bytes : List ℕ) (old new : MemoryBay) (result : Result T E) : Type 0 where
+  pub not_asked : ¬ IsAsked old → (new.asked ≡ old.asked) × (new.kept ≡ old.kept)
+  pub no_longer : IsAsked old → new.asked ≡ None
+  pub done : (asked : Asked) → old.asked ≡ Some asked → asked.call ≡ bay_moment old → OnOk result (KeepsImage (appended device zone (take asked.bytes bytes) (contents_of old)) old new)
+  pub failed : IsAsked old → OnErr result ((kept_of new ≡ None) ⊎ KeepsImage (contents_of old) old new)
+  -- it is one that a crash at that moment may leave
+  pub allowed : (image : Contents) → IsAsked old → KeepsImage image old new → (i : Instant) × (moment_of i ≡ bay_moment old) × left_of new i image
+
+-- no call was made, none is to fail, and no image is asked for
+pub record IsNew (bay : MemoryBay) : Type 0 where
   pub faults : faults_of bay ≡ (λ _. 0)
-  pub moment : moment_of bay ≡ 0
+  pub failed : (d m : ℕ) → failed_of bay d m → ⊥
+  pub lost : lost_of bay ≡ (λ _. false)
+  pub moment : bay_moment bay ≡ 0
   pub reads : reads_of bay ≡ 0
   pub listed : listed_calls bay ≡ []
+  pub asked : bay.asked ≡ None
+  pub kept : bay.kept ≡ None
 
--- all but the list is as it was
-pub record KeepsAllButList (old new : MemoryBay) : Type 0 where
-  pub shape : shape_of new ≡ shape_of old
-  pub contents : told new ≡ told old
-  pub faults : faults_of new ≡ faults_of old
-  pub moment : moment_of new ≡ moment_of old
-  pub reads : reads_of new ≡ reads_of old
+-- nothing is held, no call was made and none is to fail
+pub record IsBlank (devices zones blocks : ℕ) (bay : MemoryBay) : Type 0 where
+  pub shape : bay_shape bay ≡ record { devices = devices; zones = zones; blocks = blocks }
+  pub contents : contents_of bay ≡ (λ _ _. [])
+  pub new : IsNew bay
 
--- all but the moment and the faults is as it was
-pub record KeepsHeld (old new : MemoryBay) : Type 0 where
-  pub devices : new.devices ≡ old.devices
-  pub zones : new.zones ≡ old.zones
-  pub blocks : new.blocks ≡ old.blocks
-  pub held : zones_of new.held.items ≡ zones_of old.held.items
-  pub listed : listed_calls new ≡ listed_calls old
-  pub reads : reads_of new ≡ reads_of old
-
--- one more fault of the device
-pub record CountsFault (device : ℕ) (old new : MemoryBay) : Type 0 where
-  pub this : faults_of new device ≡ counted (faults_of old device)
+-- A call on the device failed at the moment: that is counted and noted, and no zone changes.
+pub record NotesFault (device moment : ℕ) (old new : MemoryBay) : Type 0 where
+  pub tracks : KeepsTracks (bay_views old) (bay_views new)
+  pub shape : bay_shape new ≡ bay_shape old
+  pub faults : faults_of new device ≡ counted (faults_of old device)
   pub no_fewer : faults_of old device ≤ faults_of new device
-  pub others : (d : ℕ) → d ≢ device → faults_of new d ≡ faults_of old d
+  pub noted : NotesFailure moment (view_at (bay_views old) device) (view_at (bay_views new) device)
+  pub others : (d : ℕ) → d ≢ device → KeepsFailures (view_at (bay_views old) d) (view_at (bay_views new) d)
+  pub lost : lost_of new ≡ lost_of old
+  pub reads : reads_of new ≡ reads_of old
+  pub listed : listed_calls new ≡ listed_calls old
+
+-- what is held and was held, what failed and what is lost, and the calls made
+pub record KeepsArray (old new : MemoryBay) : Type 0 where
+  pub array : new.array ≡ old.array
+  pub moment : bay_moment new ≡ bay_moment old
+  pub reads : reads_of new ≡ reads_of old
+
+-- which calls are to fail or to be kept, and what is kept
+pub record KeepsRequests (old new : MemoryBay) : Type 0 where
+  pub listed : listed_calls new ≡ listed_calls old
+  pub asked : new.asked ≡ old.asked
+  pub kept : new.kept ≡ old.kept

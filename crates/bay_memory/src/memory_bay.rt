@@ -1,9 +1,14 @@
-ghost use Rattle.std.specs.Prelude.{◌≡◌, ◌≢◌, ℕ, ◌*◌, ◌<◌, ◌^◌, ◌++◌, Some, ◌+◌, ◌≤◌, length, vec_len, IfOk, OnOk, OnErr, IsTrue, ◌↔◌};
-ghost use Rattle.bay_memory.specs.Held.{zones_of, IsWhole};
+ghost use Rattle.std.specs.Prelude.{◌≡◌, ◌⊎◌, ℕ, ◌*◌, ◌<◌, ◌^◌, ◌++◌, Some, None, true, false, ◌+◌, ◌≤◌, [], length, take, map, replicate, vec_len, if◌then◌else◌, MatchResult, option_map, IfOk, OnOk, OnErr, IfSome, IsTrue, ◌↔◌};
+ghost use Rattle.bay_memory.specs.Array.{AllSteady};
+ghost use Rattle.bay_memory.specs.Views.{views_of};
 
-use crate::held::{empty_device, empty_devices, empty_zone, extend_zone, zone_bytes};
+use crate::array::Array;
+use crate::asked::Asked;
+use crate::crash::Crash;
+use crate::image::Image;
+use crate::keep::Keep;
 use smore_base::Memory;
-use std::alloc::Global;
+use std::alloc::{AllocError, Global};
 use zone_bay::{Bay, Failed};
 
 /// Zones of this many blocks have 4 GiB, which is more than this bay holds.
@@ -11,29 +16,35 @@ const TOO_MANY_BLOCKS: u32 = 1 << 23;
 
 /// An array in memory. A zone has less than 4 GiB.
 ///
-/// A call fails at the last moment and where it is listed, and an append also where there is no memory for its bytes.
-/// A call that fails is counted on its device, and leaves what is held as it was.
+/// A call fails at the last moment, where it is listed, and on a lost device; an append also where there is no memory
+/// for its bytes, and a call whose image is asked for where there is none for the image. A call that fails is counted
+/// on its device, and leaves what is held as it was.
+///
+/// Each zone keeps what it held before, so that contracts can speak of each moment. No memory is given back.
 #[derive(Drop)]
 pub struct MemoryBay {
-    devices: u8,
-    zones: u16,
-    blocks: u32,
-    /// The bytes of each zone, by device and zone.
-    held: Vec<Vec<Vec<u8>>>,
-    /// How often each device has failed.
-    faults: Vec<u64>,
+    array: Array,
     /// The moments of the calls that are to fail.
     listed: Vec<u64>,
     moment: u64,
     reads: u64,
-    ghost small: { 512 * blocks < 2 ^ 32 },
-    ghost whole: { IsWhole (zones_of held.items) devices zones blocks },
-    ghost counted: { vec_len faults ≡ devices },
+    /// The call whose image is asked for.
+    asked: Option<Asked>,
+    /// The image that was asked for, until it is taken.
+    kept: Option<Image>,
+    ghost steady: { AllSteady moment (views_of array) },
 }
 
 impl MemoryBay {
-    ghost use Rattle.zone_bay.specs.Bay.{IsCallOn};
-    ghost use Rattle.bay_memory.specs.MemoryBay.{shape_of, contents_of, faults_of, moment_of, listed_calls, IsDue, FailsIfDue, IsBlank, KeepsAllButList, KeepsHeld, CountsFault};
+    ghost use Rattle.zone_bay.specs.Bay.{IsCallOn, appended, reads_after};
+    ghost use Rattle.zone_bay.specs.Images.{without_each};
+    ghost use Rattle.zone_bay.specs.Moments.{TellsFailure};
+    ghost use Rattle.zone_bay.specs.Outside.{counted, last};
+    ghost use Rattle.bay_memory.specs.Array.{AreFresh, KeepsTracks, AllKeepFailures, with_lost};
+    ghost use Rattle.bay_memory.specs.declared.asked.Asked.{Asked};
+    ghost use Rattle.bay_memory.specs.Image.{image_shape, image_bytes};
+    ghost use Rattle.bay_memory.specs.Keep.{kept, IsLeft};
+    ghost use Rattle.bay_memory.specs.MemoryBay.{bay_views, bay_shape, contents_of, firm_of, faults_of, failed_of, lost_of, bay_moment, reads_of, listed_calls, kept_of, IsDue, IsAsked, KeepsImage, IsBlank, IsNew, NotesFault, KeepsArray, KeepsRequests};
 
     /// A bay that holds nothing, has made no call and has no call listed. `Memory` comes too where a zone has 4 GiB
     /// or more.
@@ -43,98 +54,270 @@ impl MemoryBay {
         if blocks >= TOO_MANY_BLOCKS {
             return Err(Memory);
         }
-        let held = empty_devices(alloc, devices, zones)?;
-        let faults = vec![in alloc; 0u64; usize::from(devices)]?;
-        Ok(MemoryBay {
-            devices,
-            zones,
-            blocks,
-            held,
-            faults,
+        let array = Array::blank(alloc, devices, zones, blocks)?;
+        Ok(MemoryBay::with(alloc, array))
+    }
+
+    /// A bay that holds what the image has, all of it firm. No call was made, and no device is lost.
+    pub fn from_image(alloc: Global, image: Image) -> MemoryBay
+        ensures shape { bay_shape result ≡ image_shape image }
+        ensures contents { contents_of result ≡ image_bytes image }
+        ensures firm { (d z : ℕ) → firm_of result d z ≡ length (contents_of result d z) }
+        ensures new { IsNew result }
+    {
+        MemoryBay::with(alloc, image.array)
+    }
+
+    /// A bay of this array, of which no call was made.
+    fn with(alloc: Global, array: Array) -> MemoryBay
+        requires { AreFresh (views_of array) }
+        ensures array { result.array ≡ array }
+        ensures new { IsNew result }
+    {
+        MemoryBay {
+            array,
             listed: Vec::new(alloc),
             moment: 0,
             reads: 0,
-        })
+            asked: None,
+            kept: None,
+        }
     }
 
     /// Lists calls that are to fail, beside those that are listed. The call made at moment m has the number m.
     pub fn fail_at(&mut self, calls: &[u64]) -> Result<(), Memory>
         ensures ok { OnOk result (listed_calls self.new ≡ listed_calls self.old ++ calls.now) }
         ensures err { OnErr result (listed_calls self.new ≡ listed_calls self.old) }
-        ensures same { KeepsAllButList self.old self.new }
+        ensures array { KeepsArray self.old self.new }
+        ensures image { (self.new.asked ≡ self.old.asked) × (self.new.kept ≡ self.old.kept) }
     {
         self.listed.extend_from_slice(calls)?;
         Ok(())
     }
 
-    /// The bytes of a zone.
-    pub fn held(&self, device: u8, zone: u16) -> &[u8]
-        requires device_in { device < (shape_of self.now).devices }
-        requires zone_in { zone < (shape_of self.now).zones }
-        ensures { result.now ≡ contents_of self.now device zone }
+    /// Lets all later calls on the device fail until a `replace` of it is answered.
+    pub fn lose(&mut self, device: u8)
+        requires { device < (bay_shape self.old).devices }
+        ensures lost { lost_of self.new ≡ with_lost device true (bay_views self.old) }
+        ensures tracks { KeepsTracks (bay_views self.old) (bay_views self.new) }
+        ensures failures { AllKeepFailures (bay_views self.old) (bay_views self.new) }
+        ensures shape { bay_shape self.new ≡ bay_shape self.old }
+        ensures moment { bay_moment self.new ≡ bay_moment self.old }
+        ensures reads { reads_of self.new ≡ reads_of self.old }
+        ensures requests { KeepsRequests self.old self.new }
     {
-        zone_bytes(&self.held, device.into(), zone.into())
+        self.array.lose(device);
     }
 
-    /// Whether the call that is made next is to fail.
+    /// What a crash now leaves of each zone, where the devices are removed. Numbers of which there is no device are
+    /// passed over.
+    pub fn crash(&self, keep: Keep, removed: &[u8]) -> Result<Image, Memory>
+        ensures shape { IfOk result (λ image. image_shape image ≡ bay_shape self.now) }
+        ensures exact { IfOk result (λ image. image_bytes image ≡ without_each removed.now (kept keep (contents_of self.now) (firm_of self.now))) }
+        ensures allowed { IfOk result (λ image. IsLeft removed.now (contents_of self.now) (firm_of self.now) (image_bytes image)) }
+    {
+        let crash = Crash {
+            keep,
+            removed,
+            device: 0,
+            zone: 0,
+            more: &[],
+        };
+        Ok(Image::of(*self.listed.allocator(), &self.array, &crash)?)
+    }
+
+    /// Asks for the image of the call that is made at this moment, when so many bytes of its append are done. A call
+    /// that fails, a reset and a replace count as not done. An image that was asked for before is given up.
+    pub fn image_at(&mut self, call: u64, bytes: u32)
+        ensures asked { self.new.asked ≡ Some (record { call = call; bytes = bytes }) }
+        ensures kept { kept_of self.new ≡ None }
+        ensures listed { listed_calls self.new ≡ listed_calls self.old }
+        ensures array { KeepsArray self.old self.new }
+    {
+        self.asked = Some(Asked { call, bytes });
+        self.kept = None;
+    }
+
+    /// The image that was asked for. `None` where its call hasn't come yet, where that found no memory, or where the
+    /// image was given before.
+    pub fn taken(&mut self) -> Option<Image>
+        ensures taken { option_map (λ image. (image_shape image, image_bytes image)) result ≡ kept_of self.old }
+        ensures gone { kept_of self.new ≡ None }
+        ensures asked { self.new.asked ≡ self.old.asked }
+        ensures listed { listed_calls self.new ≡ listed_calls self.old }
+        ensures array { KeepsArray self.old self.new }
+    {
+        self.kept.take()
+    }
+
+    /// The bytes of a zone.
+    pub fn held(&self, device: u8, zone: u16) -> &[u8]
+        requires device_in { device < (bay_shape self.now).devices }
+        requires zone_in { zone < (bay_shape self.now).zones }
+        ensures { result.now ≡ contents_of self.now device zone }
+    {
+        self.array.held(device, zone)
+    }
+
+    /// Whether the call that is made next is to fail, whatever its device.
     fn is_due(&self) -> bool
         ensures { IsTrue result ↔ IsDue self.now }
     {
         self.moment == u64::MAX || self.listed.contains(&self.moment)
     }
 
-    /// Counts a fault of the device.
-    fn count_fault(&mut self, device: u8)
-        requires { device < (shape_of self.old).devices }
-        ensures fault { CountsFault device self.old self.new }
-        ensures held { KeepsHeld self.old self.new }
-        ensures moment { moment_of self.new ≡ moment_of self.old }
+    /// Whether the image of the call that is made next is asked for.
+    fn is_asked(&self) -> bool
+        ensures { IsTrue result ↔ IsAsked self.now }
     {
-        let device = usize::from(device);
-        self.faults[device] = self.faults[device].saturating_add(1);
+        match &self.asked {
+            Some(asked) => asked.call == self.moment,
+            None => false,
+        }
     }
 
-    /// Counts a call on the device, and lets it fail where it is due.
-    fn begin(&mut self, device: u8) -> Result<(), Failed>
-        requires { device < (shape_of self.old).devices }
-        ensures exact { FailsIfDue self.old result }
-        ensures call { IsCallOn shape_of moment_of faults_of device self.old self.new result }
-        ensures held { KeepsHeld self.old self.new }
+    /// The number of reads of drives, with one of this device.
+    fn reads_with(&self, device: u8) -> u64
+        requires { device < (bay_shape self.now).devices }
+        ensures { result ≡ reads_after (bay_shape self.now) device (reads_of self.now) }
     {
-        let is_due = self.is_due();
-        self.moment = self.moment.saturating_add(1);
-        if is_due {
-            self.count_fault(device);
+        if device + 1 < self.array.devices() {
+            self.reads.saturating_add(1)
+        } else {
+            self.reads
+        }
+    }
+
+    /// Takes the image of the call that is made now, if it is asked for.
+    fn take_image(
+        &mut self,
+        due: bool,
+        device: u8,
+        zone: u16,
+        bytes: &[u8],
+    ) -> Result<(), AllocError>
+        requires at { (bytes.now ≡ []) ⊎ ((device < (bay_shape self.old).devices) × (zone < (bay_shape self.old).zones)) }
+        requires fits { length (contents_of self.old device zone) + length bytes.now ≤ 512 * (bay_shape self.old).blocks }
+        ensures not_asked { (IsAsked self.old → ⊥) → (self.new.asked ≡ self.old.asked) × (self.new.kept ≡ self.old.kept) }
+        ensures no_longer { IsAsked self.old → self.new.asked ≡ None }
+        ensures done { (asked : Asked) → self.old.asked ≡ Some asked → asked.call ≡ bay_moment self.old → OnOk result (KeepsImage (appended device zone (if due then [] else take asked.bytes bytes.now) (contents_of self.old)) self.old self.new) }
+        ensures err { OnErr result (IsAsked self.old × (kept_of self.new ≡ None)) }
+        ensures listed { listed_calls self.new ≡ listed_calls self.old }
+        ensures array { KeepsArray self.old self.new }
+    {
+        let asked = match self.asked {
+            Some(asked) if asked.call == self.moment => asked,
+            _ => return Ok(()),
+        };
+        self.asked = None;
+        self.kept = None;
+        let done = if due {
+            0
+        } else {
+            bytes.len().min(asked.bytes as usize)
+        };
+        let crash = Crash {
+            keep: Keep::All,
+            removed: &[],
+            device,
+            zone,
+            more: &bytes[..done],
+        };
+        let image = Image::of(*self.listed.allocator(), &self.array, &crash)?;
+        self.kept = Some(image);
+        Ok(())
+    }
+
+    /// Counts a call on the device that appends these bytes, takes its image, and lets it fail where it is due. It
+    /// answers the call's moment.
+    fn begin(&mut self, due: bool, device: u8, zone: u16, bytes: &[u8]) -> Result<u64, Failed>
+        requires device_in { device < (bay_shape self.old).devices }
+        requires at { (bytes.now ≡ []) ⊎ (zone < (bay_shape self.old).zones) }
+        requires fits { length (contents_of self.old device zone) + length bytes.now ≤ 512 * (bay_shape self.old).blocks }
+        requires last { bay_moment self.old ≡ last → due ≡ true }
+        ensures exact { MatchResult result (λ moment. (moment ≡ bay_moment self.old) × (due ≡ false)) (λ _. (due ≡ true) ⊎ IsAsked self.old) }
+        ensures call { IsCallOn bay_shape bay_moment faults_of device self.old self.new result }
+        ensures failure { TellsFailure device (bay_moment self.old) (failed_of self.old) (failed_of self.new) result }
+        ensures tracks { KeepsTracks (bay_views self.old) (bay_views self.new) }
+        ensures lost { lost_of self.new ≡ lost_of self.old }
+        ensures reads { reads_of self.new ≡ reads_of self.old }
+        ensures listed { listed_calls self.new ≡ listed_calls self.old }
+        ensures not_asked { (IsAsked self.old → ⊥) → (self.new.asked ≡ self.old.asked) × (self.new.kept ≡ self.old.kept) }
+        ensures no_longer { IsAsked self.old → self.new.asked ≡ None }
+        ensures done { (asked : Asked) → self.old.asked ≡ Some asked → asked.call ≡ bay_moment self.old → OnOk result (KeepsImage (appended device zone (take asked.bytes bytes.now) (contents_of self.old)) self.old self.new) }
+        ensures failed { IsAsked self.old → OnErr result ((kept_of self.new ≡ None) ⊎ KeepsImage (contents_of self.old) self.old self.new) }
+    {
+        let moment = self.moment;
+        let image = self.take_image(due, device, zone, bytes);
+        self.moment = moment.saturating_add(1);
+        if due || image.is_err() {
+            self.array.fail(moment, device);
             return Err(Failed);
         }
-        Ok(())
+        Ok(moment)
+    }
+
+    /// Counts the failure of a call that was begun, and gives its image up.
+    fn give_up(&mut self, moment: u64, device: u8, asked: bool) -> Failed
+        requires { device < (bay_shape self.old).devices }
+        ensures fault { NotesFault device moment self.old self.new }
+        ensures moment { bay_moment self.new ≡ bay_moment self.old }
+        ensures asked { self.new.asked ≡ self.old.asked }
+        ensures kept { asked ≡ false → self.new.kept ≡ self.old.kept }
+        ensures given_up { asked ≡ true → kept_of self.new ≡ None }
+    {
+        self.array.fail(moment, device);
+        if asked {
+            self.kept = None;
+        }
+        Failed
     }
 }
 
 impl Bay for MemoryBay {
     ghost use Rattle.zone_bay.specs.Bay.{IsCallOn, reads_after, Reads, Becomes, appended, emptied, blanked, BecomesInPart, BecomesOrStays};
-    ghost use Rattle.bay_memory.specs.MemoryBay.{shape_of, contents_of, told, faults_of, moment_of, reads_of, listed_calls, IsDue, FailsIfDue};
+    ghost use Rattle.zone_bay.specs.Images.{flushed, still_firm};
+    ghost use Rattle.zone_bay.specs.Moments.{Elapses, TellsFailure};
+    ghost use Rattle.bay_memory.specs.Array.{with_lost};
+    ghost use Rattle.bay_memory.specs.MemoryBay.{bay_views, bay_shape, contents_of, told, firm_of, left_of, faults_of, failed_of, lost_of, bay_moment, reads_of, listed_calls, IsDue, IsDueOn, IsAsked, FailsIf, TakesImage};
+    ghost use Rattle.bay_memory.specs.Laws.{holds_firm, counts_image, only_image, none_during, none_past};
 
-    ghost shape = { shape_of };
+    ghost shape = { bay_shape };
 
     ghost contents = { told };
 
+    ghost firm = { firm_of };
+
+    ghost left = { left_of };
+
     ghost faults = { faults_of };
 
-    ghost moment = { moment_of };
+    ghost failed_at = { failed_of };
+
+    ghost moment = { bay_moment };
 
     ghost reads = { reads_of };
 
+    ghost firm_held = { holds_firm };
+
+    ghost counts_now = { counts_image };
+
+    ghost only_now = { only_image };
+
+    ghost none_yet = { none_during };
+
+    ghost none_later = { none_past };
+
     fn devices(&self) -> u8 {
-        self.devices
+        self.array.devices()
     }
 
     fn zones(&self) -> u16 {
-        self.zones
+        self.array.zones()
     }
 
     fn blocks(&self) -> u32 {
-        self.blocks
+        self.array.blocks()
     }
 
     fn moment(&self) -> u64 {
@@ -142,34 +325,44 @@ impl Bay for MemoryBay {
     }
 
     fn written(&mut self, device: u8, zone: u16) -> Result<u32, Failed>
-        requires device_in { device < (shape_of self.old).devices }
-        requires zone_in { zone < (shape_of self.old).zones }
-        ensures exact { FailsIfDue self.old result }
-        ensures listed { listed_calls self.new ≡ listed_calls self.old }
+        requires device_in { device < (bay_shape self.old).devices }
+        requires zone_in { zone < (bay_shape self.old).zones }
+        ensures exact { FailsIf (IsDueOn device self.old) self.old result }
         ensures length { IfOk result (λ bytes. bytes ≡ length (contents_of self.old device zone)) }
         ensures same { told self.new ≡ told self.old }
-        ensures call { IsCallOn shape_of moment_of faults_of device self.old self.new result }
+        ensures firm { firm_of self.new ≡ firm_of self.old }
+        ensures call { IsCallOn bay_shape bay_moment faults_of device self.old self.new result }
         ensures reads { reads_of self.new ≡ reads_of self.old }
+        ensures time { Elapses told firm_of bay_moment left_of (λ held. held) self.old self.new result }
+        ensures failure { TellsFailure device (bay_moment self.old) (failed_of self.old) (failed_of self.new) result }
+        ensures listed { listed_calls self.new ≡ listed_calls self.old }
+        ensures lost { lost_of self.new ≡ lost_of self.old }
+        ensures image { TakesImage device zone [] self.old self.new result }
     {
-        self.begin(device)?;
+        let due = self.is_due() || self.array.is_lost(device);
+        self.begin(due, device, zone, &[])?;
         Ok(self.held(device, zone).len() as u32)
     }
 
     fn read(&mut self, device: u8, zone: u16, at: u32, out: &mut [u8]) -> Result<(), Failed>
-        requires device_in { device < (shape_of self.old).devices }
-        requires zone_in { zone < (shape_of self.old).zones }
+        requires device_in { device < (bay_shape self.old).devices }
+        requires zone_in { zone < (bay_shape self.old).zones }
         requires written { at + length out.old ≤ length (contents_of self.old device zone) }
-        ensures exact { FailsIfDue self.old result }
-        ensures listed { listed_calls self.new ≡ listed_calls self.old }
+        ensures exact { FailsIf (IsDueOn device self.old) self.old result }
         ensures bytes { OnOk result (Reads (contents_of self.old device zone) at out.new) }
         ensures same { told self.new ≡ told self.old }
-        ensures call { IsCallOn shape_of moment_of faults_of device self.old self.new result }
-        ensures reads { reads_of self.new ≡ reads_after (shape_of self.old) device (reads_of self.old) }
+        ensures firm { firm_of self.new ≡ firm_of self.old }
+        ensures call { IsCallOn bay_shape bay_moment faults_of device self.old self.new result }
+        ensures reads { reads_of self.new ≡ reads_after (bay_shape self.old) device (reads_of self.old) }
+        ensures time { Elapses told firm_of bay_moment left_of (λ held. held) self.old self.new result }
+        ensures failure { TellsFailure device (bay_moment self.old) (failed_of self.old) (failed_of self.new) result }
+        ensures listed { listed_calls self.new ≡ listed_calls self.old }
+        ensures lost { lost_of self.new ≡ lost_of self.old }
+        ensures image { TakesImage device zone [] self.old self.new result }
     {
-        if device + 1 < self.devices {
-            self.reads = self.reads.saturating_add(1);
-        }
-        self.begin(device)?;
+        let due = self.is_due() || self.array.is_lost(device);
+        self.reads = self.reads_with(device);
+        self.begin(due, device, zone, &[])?;
         let at = at as usize;
         out.copy_from_slice(&self.held(device, zone)[at..at + out.len()]);
         Ok(())
@@ -177,206 +370,90 @@ impl Bay for MemoryBay {
 
     // It fails where there is no memory for the bytes, too.
     fn append(&mut self, device: u8, zone: u16, bytes: &[u8]) -> Result<(), Failed>
-        requires device_in { device < (shape_of self.old).devices }
-        requires zone_in { zone < (shape_of self.old).zones }
-        requires fits { length (contents_of self.old device zone) + length bytes.now ≤ 512 * (shape_of self.old).blocks }
-        ensures exact { OnOk result (¬ IsDue self.old) }
-        ensures listed { listed_calls self.new ≡ listed_calls self.old }
+        requires device_in { device < (bay_shape self.old).devices }
+        requires zone_in { zone < (bay_shape self.old).zones }
+        requires fits { length (contents_of self.old device zone) + length bytes.now ≤ 512 * (bay_shape self.old).blocks }
+        ensures exact { OnOk result (IsDueOn device self.old → ⊥) }
         ensures kept { OnErr result (told self.new ≡ told self.old) }
         ensures ok { OnOk result (Becomes (appended device zone bytes.now) (told self.old) (told self.new)) }
         ensures err { OnErr result (BecomesInPart device zone bytes.now (told self.old) (told self.new)) }
-        ensures call { IsCallOn shape_of moment_of faults_of device self.old self.new result }
+        ensures firm { firm_of self.new ≡ firm_of self.old }
+        ensures call { IsCallOn bay_shape bay_moment faults_of device self.old self.new result }
         ensures reads { reads_of self.new ≡ reads_of self.old }
+        ensures time { Elapses told firm_of bay_moment left_of (appended device zone bytes.now) self.old self.new result }
+        ensures failure { TellsFailure device (bay_moment self.old) (failed_of self.old) (failed_of self.new) result }
+        ensures listed { listed_calls self.new ≡ listed_calls self.old }
+        ensures lost { lost_of self.new ≡ lost_of self.old }
+        ensures image { TakesImage device zone bytes.now self.old self.new result }
     {
-        self.begin(device)?;
-        match extend_zone(&mut self.held, device.into(), zone.into(), bytes) {
+        let due = self.is_due() || self.array.is_lost(device);
+        let asked = self.is_asked();
+        let moment = self.begin(due, device, zone, bytes)?;
+        match self.array.append(moment, device, zone, bytes) {
             Ok(()) => Ok(()),
-            Err(_) => {
-                self.count_fault(device);
-                Err(Failed)
-            }
+            Err(_) => Err(self.give_up(moment, device, asked)),
         }
     }
 
     fn reset(&mut self, device: u8, zone: u16) -> Result<(), Failed>
-        requires device_in { device < (shape_of self.old).devices }
-        requires zone_in { zone < (shape_of self.old).zones }
-        ensures exact { FailsIfDue self.old result }
-        ensures listed { listed_calls self.new ≡ listed_calls self.old }
+        requires device_in { device < (bay_shape self.old).devices }
+        requires zone_in { zone < (bay_shape self.old).zones }
+        ensures exact { FailsIf (IsDueOn device self.old) self.old result }
         ensures kept { OnErr result (told self.new ≡ told self.old) }
         ensures ok { OnOk result (Becomes (emptied device zone) (told self.old) (told self.new)) }
         ensures err { OnErr result (BecomesOrStays (emptied device zone) (told self.old) (told self.new)) }
-        ensures call { IsCallOn shape_of moment_of faults_of device self.old self.new result }
+        ensures firm { IfSome (told self.new) (λ held. firm_of self.new ≡ still_firm held (firm_of self.old)) }
+        ensures call { IsCallOn bay_shape bay_moment faults_of device self.old self.new result }
         ensures reads { reads_of self.new ≡ reads_of self.old }
+        ensures time { Elapses told firm_of bay_moment left_of (emptied device zone) self.old self.new result }
+        ensures failure { TellsFailure device (bay_moment self.old) (failed_of self.old) (failed_of self.new) result }
+        ensures listed { listed_calls self.new ≡ listed_calls self.old }
+        ensures lost { lost_of self.new ≡ lost_of self.old }
+        ensures image { TakesImage device zone [] self.old self.new result }
     {
-        self.begin(device)?;
-        empty_zone(&mut self.held, device.into(), zone.into());
+        let due = self.is_due() || self.array.is_lost(device);
+        let moment = self.begin(due, device, zone, &[])?;
+        self.array.reset(moment, device, zone);
         Ok(())
     }
 
     fn flush(&mut self, device: u8) -> Result<(), Failed>
-        requires { device < (shape_of self.old).devices }
-        ensures exact { FailsIfDue self.old result }
-        ensures listed { listed_calls self.new ≡ listed_calls self.old }
+        requires { device < (bay_shape self.old).devices }
+        ensures exact { FailsIf (IsDueOn device self.old) self.old result }
         ensures same { told self.new ≡ told self.old }
-        ensures call { IsCallOn shape_of moment_of faults_of device self.old self.new result }
+        ensures firm { OnOk result (IfSome (told self.old) (λ held. firm_of self.new ≡ flushed device held (firm_of self.old))) }
+        ensures firm_err { OnErr result (firm_of self.new ≡ firm_of self.old) }
+        ensures call { IsCallOn bay_shape bay_moment faults_of device self.old self.new result }
         ensures reads { reads_of self.new ≡ reads_of self.old }
+        ensures time { Elapses told firm_of bay_moment left_of (λ held. held) self.old self.new result }
+        ensures failure { TellsFailure device (bay_moment self.old) (failed_of self.old) (failed_of self.new) result }
+        ensures listed { listed_calls self.new ≡ listed_calls self.old }
+        ensures lost { lost_of self.new ≡ lost_of self.old }
+        ensures image { TakesImage device 0 [] self.old self.new result }
     {
-        self.begin(device)
+        let due = self.is_due() || self.array.is_lost(device);
+        let moment = self.begin(due, device, 0, &[])?;
+        self.array.flush(moment, device);
+        Ok(())
     }
 
     fn replace(&mut self, device: u8) -> Result<(), Failed>
-        requires { device < (shape_of self.old).devices }
-        ensures exact { FailsIfDue self.old result }
-        ensures listed { listed_calls self.new ≡ listed_calls self.old }
+        requires { device < (bay_shape self.old).devices }
+        ensures exact { FailsIf (IsDue self.old) self.old result }
         ensures kept { OnErr result (told self.new ≡ told self.old) }
         ensures ok { OnOk result (Becomes (blanked device) (told self.old) (told self.new)) }
         ensures err { OnErr result (BecomesOrStays (blanked device) (told self.old) (told self.new)) }
-        ensures call { IsCallOn shape_of moment_of faults_of device self.old self.new result }
+        ensures firm { IfSome (told self.new) (λ held. firm_of self.new ≡ still_firm held (firm_of self.old)) }
+        ensures call { IsCallOn bay_shape bay_moment faults_of device self.old self.new result }
         ensures reads { reads_of self.new ≡ reads_of self.old }
+        ensures time { Elapses told firm_of bay_moment left_of (blanked device) self.old self.new result }
+        ensures failure { TellsFailure device (bay_moment self.old) (failed_of self.old) (failed_of self.new) result }
+        ensures listed { listed_calls self.new ≡ listed_calls self.old }
+        ensures lost { MatchResult result (λ _. lost_of self.new ≡ with_lost device false (bay_views self.old)) (λ _. lost_of self.new ≡ lost_of self.old) }
+        ensures image { TakesImage device 0 [] self.old self.new result }
     {
-        self.begin(device)?;
-        empty_device(&mut self.held, device.into());
-        Ok(())
-    }
-}
-
-#[cfg(test)]
-mod tests {
-    use super::*;
-    use std::process::Abort;
-    use std::test::Fail;
-
-    /// A call on a device and mostly a zone of it, with what it writes or is to tell.
-    #[derive(Clone, Copy)]
-    enum Call {
-        Written(u8, u16, u32),
-        Read(u8, u16, u32, [u8; 2]),
-        Append(u8, u16, &'static str),
-        Reset(u8, u16),
-        Flush(u8),
-        Replace(u8),
-    }
-
-    fn make(rt: &impl Abort, bay: &mut MemoryBay, call: Call) -> Result<(), Failed> {
-        match call {
-            Call::Written(device, zone, bytes) => {
-                assert!(rt; device < bay.devices() && zone < bay.zones());
-                assert_eq!(rt; bay.written(device, zone)?, bytes);
-                Ok(())
-            }
-            Call::Read(device, zone, at, bytes) => {
-                let mut out = [0, 0];
-                assert!(rt; device < bay.devices() && zone < bay.zones());
-                assert!(rt; at < 500 && at as usize + 2 <= bay.held(device, zone).len());
-                bay.read(device, zone, at, &mut out)?;
-                assert_eq!(rt; out, bytes);
-                Ok(())
-            }
-            Call::Append(device, zone, text) => {
-                let bytes = text.as_bytes();
-                assert!(rt; device < bay.devices() && zone < bay.zones() && bay.blocks() > 0);
-                assert!(rt; bay.held(device, zone).len() <= 256 && bytes.len() <= 256);
-                bay.append(device, zone, bytes)
-            }
-            Call::Reset(device, zone) => {
-                assert!(rt; device < bay.devices() && zone < bay.zones());
-                bay.reset(device, zone)
-            }
-            Call::Flush(device) => {
-                assert!(rt; device < bay.devices());
-                bay.flush(device)
-            }
-            Call::Replace(device) => {
-                assert!(rt; device < bay.devices());
-                bay.replace(device)
-            }
-        }
-    }
-
-    /// Makes the calls, which are to succeed but those that are listed, and compares what the zones hold after each.
-    fn make_each(
-        rt: &impl Abort,
-        bay: &mut MemoryBay,
-        listed: &[u64],
-        calls: &[(Call, [&'static str; 4])],
-    ) {
-        for (call, held) in calls {
-            let moment = bay.moment();
-            let answer = make(rt, bay, *call);
-            assert_eq!(rt; answer.is_err(), listed.contains(&moment), "at {moment}");
-            let zones = bay.held.iter().flatten();
-            assert!(rt;
-                zones
-                    .map(|zone| zone.as_slice())
-                    .eq(held.iter().map(|text| text.as_bytes())),
-                "at {moment}"
-            );
-        }
-    }
-
-    const CALLS: [(Call, [&str; 4]); 12] = [
-        (Call::Append(0, 1, "ab"), ["", "ab", "", ""]),
-        (Call::Append(1, 0, "flash"), ["", "ab", "flash", ""]),
-        (Call::Append(0, 1, "cde"), ["", "abcde", "flash", ""]),
-        (Call::Written(0, 1, 5), ["", "abcde", "flash", ""]),
-        (Call::Flush(0), ["", "abcde", "flash", ""]),
-        (
-            Call::Read(0, 1, 2, [b'c', b'd']),
-            ["", "abcde", "flash", ""],
-        ),
-        (
-            Call::Read(1, 0, 3, [b's', b'h']),
-            ["", "abcde", "flash", ""],
-        ),
-        (Call::Reset(0, 1), ["", "", "flash", ""]),
-        (Call::Append(0, 1, "y"), ["", "y", "flash", ""]),
-        (Call::Append(0, 0, "x"), ["x", "y", "flash", ""]),
-        (Call::Replace(0), ["", "", "flash", ""]),
-        (Call::Append(0, 0, "z"), ["z", "", "flash", ""]),
-    ];
-
-    #[test]
-    fn calls_succeed(rt: HostRuntime) -> Result<(), Fail> {
-        let mut bay = MemoryBay::new(rt.alloc(), 2, 2, 1)?;
-        assert_eq!(rt; (bay.devices(), bay.zones(), bay.blocks()), (2, 2, 1));
-        make_each(&rt, &mut bay, &[], &CALLS);
-        assert_eq!(rt; (bay.moment(), bay.reads), (12, 1));
-        assert_eq!(rt; bay.faults.as_slice(), [0, 0].as_slice());
-        Ok(())
-    }
-
-    const LISTED: [u64; 8] = [1, 2, 3, 4, 6, 7, 8, 200];
-
-    const FAILING_CALLS: [(Call, [&str; 4]); 10] = [
-        (Call::Append(0, 1, "abc"), ["", "abc", "", ""]),
-        (Call::Append(0, 1, "de"), ["", "abc", "", ""]),
-        (Call::Reset(0, 1), ["", "abc", "", ""]),
-        (Call::Replace(0), ["", "abc", "", ""]),
-        (Call::Append(1, 0, "flash"), ["", "abc", "", ""]),
-        (Call::Append(1, 0, "flash"), ["", "abc", "flash", ""]),
-        (Call::Written(1, 0, 5), ["", "abc", "flash", ""]),
-        (Call::Read(0, 1, 0, [b'a', b'b']), ["", "abc", "flash", ""]),
-        (Call::Flush(0), ["", "abc", "flash", ""]),
-        (Call::Read(0, 1, 1, [b'b', b'c']), ["", "abc", "flash", ""]),
-    ];
-
-    #[test]
-    fn listed_calls_fail(rt: HostRuntime) -> Result<(), Fail> {
-        let mut bay = MemoryBay::new(rt.alloc(), 2, 2, 1)?;
-        bay.fail_at(&LISTED[..4])?;
-        bay.fail_at(&LISTED[4..])?;
-        make_each(&rt, &mut bay, &LISTED, &FAILING_CALLS);
-        assert_eq!(rt; (bay.moment(), bay.reads), (10, 2));
-        assert_eq!(rt; bay.faults.as_slice(), [5, 2].as_slice());
-        Ok(())
-    }
-
-    #[test]
-    fn zones_of_four_gib_are_refused(rt: HostRuntime) -> Result<(), Fail> {
-        assert!(rt; MemoryBay::new(rt.alloc(), 1, 1, 1 << 23).is_err());
-        let bay = MemoryBay::new(rt.alloc(), 1, 1, (1 << 23) - 1)?;
-        assert_eq!(rt; bay.blocks(), 8_388_607);
+        let moment = self.begin(self.is_due(), device, 0, &[])?;
+        self.array.replace(moment, device);
         Ok(())
     }
 }

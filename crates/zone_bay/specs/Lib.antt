@@ -1,2 +1,5 @@
 pub mod Bay
+pub mod Images
+pub mod Laws
+pub mod Moments
 pub mod Outside

@@ -1,5 +1,8 @@
 ghost use Rattle.std.specs.Prelude.{◌≡◌, ℕ, ◌+◌, ◌*◌, ◌<◌, ◌≤◌, List, [], length, Option, IfSome, IfOk, OnOk, OnErr};
 ghost use Rattle.zone_bay.specs.Bay.{Contents, Shape, IsCallOn, reads_after, Reads, Becomes, appended, emptied, blanked, BecomesInPart, BecomesOrStays};
+ghost use Rattle.zone_bay.specs.Images.{Lengths, ImageOf, flushed, still_firm};
+ghost use Rattle.zone_bay.specs.Moments.{Instant, Between, During, moment_of, Elapses, TellsFailure};
+ghost use Rattle.zone_bay.specs.Outside.{last};
 
 use crate::Failed;
 
@@ -15,8 +18,17 @@ pub trait Bay {
     /// The bytes of each zone, where they are told.
     ghost contents: { Self → Option Contents };
 
+    /// How many bytes of each zone are firm: a crash leaves at least these.
+    ghost firm: { Self → Lengths };
+
+    /// What a crash at each instant so far may have left.
+    ghost left: { Self → Instant → Contents → Type 0 };
+
     /// How often each device has failed. It never falls.
     ghost faults: { Self → ℕ → ℕ };
+
+    /// At which moments calls on each device failed.
+    ghost failed_at: { Self → ℕ → ℕ → Type 0 };
 
     /// How many calls were made so far.
     ghost moment: { Self → ℕ };
@@ -47,8 +59,11 @@ pub trait Bay {
         ensures length { IfSome (contents self.old)
             (λ held. IfOk result (λ bytes. bytes ≡ length (held device zone))) }
         ensures same { contents self.new ≡ contents self.old }
+        ensures firm { firm self.new ≡ firm self.old }
         ensures call { IsCallOn shape moment faults device self.old self.new result }
-        ensures reads { reads self.new ≡ reads self.old };
+        ensures reads { reads self.new ≡ reads self.old }
+        ensures time { Elapses contents firm moment left (λ held. held) self.old self.new result }
+        ensures failure { TellsFailure device (moment self.old) (failed_at self.old) (failed_at self.new) result };
 
     /// Fills `out` from the zone's byte `at` on.
     fn read(&mut self, device: u8, zone: u16, at: u32, out: &mut [u8]) -> Result<(), Failed>
@@ -59,8 +74,11 @@ pub trait Bay {
         ensures bytes { IfSome (contents self.old)
             (λ held. OnOk result (Reads (held device zone) at out.new)) }
         ensures same { contents self.new ≡ contents self.old }
+        ensures firm { firm self.new ≡ firm self.old }
         ensures call { IsCallOn shape moment faults device self.old self.new result }
-        ensures reads { reads self.new ≡ reads_after (shape self.old) device (reads self.old) };
+        ensures reads { reads self.new ≡ reads_after (shape self.old) device (reads self.old) }
+        ensures time { Elapses contents firm moment left (λ held. held) self.old self.new result }
+        ensures failure { TellsFailure device (moment self.old) (failed_at self.old) (failed_at self.new) result };
 
     /// Puts the bytes at the end of the zone. Where it fails, any first part of them may stand there.
     fn append(&mut self, device: u8, zone: u16, bytes: &[u8]) -> Result<(), Failed>
@@ -70,8 +88,11 @@ pub trait Bay {
             (λ held. length (held device zone) + length bytes.now ≤ 512 * (shape self.old).blocks) }
         ensures ok { OnOk result (Becomes (appended device zone bytes.now) (contents self.old) (contents self.new)) }
         ensures err { OnErr result (BecomesInPart device zone bytes.now (contents self.old) (contents self.new)) }
+        ensures firm { firm self.new ≡ firm self.old }
         ensures call { IsCallOn shape moment faults device self.old self.new result }
-        ensures reads { reads self.new ≡ reads self.old };
+        ensures reads { reads self.new ≡ reads self.old }
+        ensures time { Elapses contents firm moment left (appended device zone bytes.now) self.old self.new result }
+        ensures failure { TellsFailure device (moment self.old) (failed_at self.old) (failed_at self.new) result };
 
     /// Empties the zone. Where it fails, the zone may be as it was or empty.
     fn reset(&mut self, device: u8, zone: u16) -> Result<(), Failed>
@@ -79,21 +100,46 @@ pub trait Bay {
         requires zone_in { zone < (shape self.old).zones }
         ensures ok { OnOk result (Becomes (emptied device zone) (contents self.old) (contents self.new)) }
         ensures err { OnErr result (BecomesOrStays (emptied device zone) (contents self.old) (contents self.new)) }
+        ensures firm { IfSome (contents self.new) (λ held. firm self.new ≡ still_firm held (firm self.old)) }
         ensures call { IsCallOn shape moment faults device self.old self.new result }
-        ensures reads { reads self.new ≡ reads self.old };
+        ensures reads { reads self.new ≡ reads self.old }
+        ensures time { Elapses contents firm moment left (emptied device zone) self.old self.new result }
+        ensures failure { TellsFailure device (moment self.old) (failed_at self.old) (failed_at self.new) result };
 
     /// Makes firm all that the device holds.
     fn flush(&mut self, device: u8) -> Result<(), Failed>
         requires { device < (shape self.old).devices }
         ensures same { contents self.new ≡ contents self.old }
+        ensures firm { OnOk result (IfSome (contents self.old) (λ held. firm self.new ≡ flushed device held (firm self.old))) }
+        ensures firm_err { OnErr result (firm self.new ≡ firm self.old) }
         ensures call { IsCallOn shape moment faults device self.old self.new result }
-        ensures reads { reads self.new ≡ reads self.old };
+        ensures reads { reads self.new ≡ reads self.old }
+        ensures time { Elapses contents firm moment left (λ held. held) self.old self.new result }
+        ensures failure { TellsFailure device (moment self.old) (failed_at self.old) (failed_at self.new) result };
 
     /// Leaves the device blank and working. Where it fails, the device may be as it was or blank.
     fn replace(&mut self, device: u8) -> Result<(), Failed>
         requires { device < (shape self.old).devices }
         ensures ok { OnOk result (Becomes (blanked device) (contents self.old) (contents self.new)) }
         ensures err { OnErr result (BecomesOrStays (blanked device) (contents self.old) (contents self.new)) }
+        ensures firm { IfSome (contents self.new) (λ held. firm self.new ≡ still_firm held (firm self.old)) }
         ensures call { IsCallOn shape moment faults device self.old self.new result }
-        ensures reads { reads self.new ≡ reads self.old };
+        ensures reads { reads self.new ≡ reads self.old }
+        ensures time { Elapses contents firm moment left (blanked device) self.old self.new result }
+        ensures failure { TellsFailure device (moment self.old) (failed_at self.old) (failed_at self.new) result };
+
+    /// No more bytes are firm than the zone holds.
+    ghost firm_held: { (bay : Self) → IfSome (contents bay) (λ held. (d z : ℕ) → firm bay d z ≤ length (held d z)) };
+
+    /// A crash now leaves an image of what is held.
+    ghost counts_now: { (bay : Self) (image : Contents) → ImageOf (contents bay) (firm bay) image → left bay (Between (moment bay)) image };
+
+    /// And nothing else, as long as the moment isn't the last one, at which each call fails.
+    ghost only_now: { (bay : Self) (image : Contents) → moment bay < last → left bay (Between (moment bay)) image → ImageOf (contents bay) (firm bay) image };
+
+    /// No crash has come in the call that is made next.
+    ghost none_yet: { (bay : Self) (image : Contents) → moment bay < last → left bay (During (moment bay)) image → ⊥ };
+
+    /// Nor later.
+    ghost none_later: { (bay : Self) (i : Instant) (image : Contents) → left bay i image → moment_of i ≤ moment bay };
 }

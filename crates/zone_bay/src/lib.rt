@@ -3,6 +3,14 @@
 
 mod bay;
 mod failed;
+mod laws;
 
 pub use bay::Bay;
 pub use failed::Failed;
+pub use laws::{
+    all_firm_leaves_all, append_leaves_more, flush_leaves_fewer, instants, missing_devices,
+    reset_leaves_nothing,
+};
+
+#[cfg(test)]
+mod tests;

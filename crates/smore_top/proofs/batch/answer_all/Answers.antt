@@ -135,6 +135,12 @@ returns-then-is_err-clause-runs g c = λ input output before a b d.
     before (g.B.Bay.contents now.bay) (Rose (g.B.Bay.faults c.args.core.now.bay 0) (g.B.Bay.faults c.answer.new.core.bay 0)) refl (λ store is. bay_ends before (g.B.Bay.contents c.args.core.now.bay) (g.B.Bay.contents now.bay) now.index.items now.used now.is_lost store (Rose (g.B.Bay.faults c.args.core.now.bay 0) (g.B.Bay.faults c.answer.new.core.bay 0)) d further.zone is now.zone (further.cause c.requires.fresh.2))
     )
 
+pub returns-in-Err-Memory-answer-clause-goes_on : goal.returns-in-Err-Memory-answer-clause-goes_on
+returns-in-Err-Memory-answer-clause-goes_on g c = goes_further g.B.Bay.shape g.B.Bay.moment g.B.Bay.faults g.B.Bay.contents c.args.core.now.is_lost c.loop-calls.core.is_lost c.answer.new.core.is_lost c.args.core.now.bay c.loop-calls.core.bay c.answer.new.core.bay c.loop-calls.invariant.goes_on c.answer.ensures.goes_on
+
+pub returns-in-Err-Failed-answer-clause-goes_on : goal.returns-in-Err-Failed-answer-clause-goes_on
+returns-in-Err-Failed-answer-clause-goes_on g c = goes_further g.B.Bay.shape g.B.Bay.moment g.B.Bay.faults g.B.Bay.contents c.args.core.now.is_lost c.loop-calls.core.is_lost c.answer.new.core.is_lost c.args.core.now.bay c.loop-calls.core.bay c.answer.new.core.bay c.loop-calls.invariant.goes_on c.answer.ensures.goes_on
+
 pub returns-then-is_err-clause-goes_on : goal.returns-then-is_err-clause-goes_on
 returns-then-is_err-clause-goes_on g c = goes_further g.B.Bay.shape g.B.Bay.moment g.B.Bay.faults g.B.Bay.contents c.args.core.now.is_lost c.loop-calls.core.is_lost c.answer.new.core.is_lost c.args.core.now.bay c.loop-calls.core.bay c.answer.new.core.bay c.loop-calls.invariant.goes_on c.answer.ensures.goes_on
 

@@ -1,0 +1,44 @@
+use Rattle.std.proofs.Common.{refl}
+use Rattle.bay_memory.specs.Past.{all_firm}
+use Rattle.bay_memory.specs.Array.{in_device}
+use Rattle.bay_memory.specs.MemoryBay.{bay_views, failed_of}
+use Rattle.bay_memory.proofs.Calls.{failed_time, failed_image, failed_failure, goes_after, next_of, failure_kept, changed_time, changed_image, told_changed, firm_changed, firm_bytes, firm_lengths}
+use Rattle.bay_memory.proofs.memory_bay.MemoryBayBay.flush.Goals as goal
+
+pub returns-in_err-moment-clause-time : goal.returns-in_err-moment-clause-time
+returns-in_err-moment-clause-time c =
+    let begin = c.begin.ensures in
+    failed_time c.from_residual.result c.from_residual.ensures.0 c.args.self.now c.begin.new.self begin.tracks begin.call.later begin.call.no_earlier (λ held. held)
+
+pub returns-in_err-moment-clause-failure : goal.returns-in_err-moment-clause-failure
+returns-in_err-moment-clause-failure c = failed_failure c.from_residual.result c.from_residual.ensures.0 c.args.self.now c.begin.new.self _ refl c.args.device c.args.self.now.moment (failed_of c.args.self.now) (failed_of c.begin.new.self) c.in_err-moment.ensures.failure
+
+pub returns-in_err-moment-clause-image : goal.returns-in_err-moment-clause-image
+returns-in_err-moment-clause-image c =
+    let begin = c.begin.ensures in
+    failed_image c.from_residual.result c.from_residual.ensures.0 c.args.self.now c.begin.new.self begin.tracks begin.call.later begin.call.no_earlier c.args.device 0 _ begin.not_asked begin.no_longer c.in_err-moment.ensures.failed
+
+pub returns-clause-time : goal.returns-clause-time
+returns-clause-time c =
+    let begin = c.in_ok-moment.ensures in
+    changed_time _ c.args.self.now _ (in_device c.args.device all_firm) (goes_after c.args.self.now.moment (in_device c.args.device all_firm) (bay_views c.args.self.now) (bay_views c.begin.new.self) _ begin.tracks (rw begin.exact.0 at c.flush.ensures.zones)) (next_of _ c.args.device c.args.self.now c.begin.new.self begin.call) (λ held. held) (firm_bytes (bay_views c.args.self.now) c.args.device)
+
+pub returns-clause-failure : goal.returns-clause-failure
+returns-clause-failure c =
+    let begin = c.in_ok-moment.ensures in
+    failure_kept _ _ c.args.device c.args.self.now.moment (bay_views c.args.self.now) (bay_views c.begin.new.self) _ begin.failure c.flush.ensures.failures
+
+pub returns-clause-image : goal.returns-clause-image
+returns-clause-image c =
+    let begin = c.in_ok-moment.ensures in
+    changed_image _ c.args.self.now _ (in_device c.args.device all_firm) (goes_after c.args.self.now.moment (in_device c.args.device all_firm) (bay_views c.args.self.now) (bay_views c.begin.new.self) _ begin.tracks (rw begin.exact.0 at c.flush.ensures.zones)) (next_of _ c.args.device c.args.self.now c.begin.new.self begin.call) (λ held. held) (firm_bytes (bay_views c.args.self.now) c.args.device) c.args.device 0 begin.not_asked begin.no_longer begin.done
+
+pub returns-clause-same : goal.returns-clause-same
+returns-clause-same c =
+    let begin = c.in_ok-moment.ensures in
+    told_changed c.args.self.now.moment (bay_views c.args.self.now) _ (in_device c.args.device all_firm) (goes_after c.args.self.now.moment (in_device c.args.device all_firm) (bay_views c.args.self.now) (bay_views c.begin.new.self) _ begin.tracks (rw begin.exact.0 at c.flush.ensures.zones)) (λ held. held) (firm_bytes (bay_views c.args.self.now) c.args.device)
+
+pub returns-clause-firm : goal.returns-clause-firm
+returns-clause-firm c =
+    let begin = c.in_ok-moment.ensures in
+    firm_changed c.args.self.now.moment (bay_views c.args.self.now) _ (in_device c.args.device all_firm) (goes_after c.args.self.now.moment (in_device c.args.device all_firm) (bay_views c.args.self.now) (bay_views c.begin.new.self) _ begin.tracks (rw begin.exact.0 at c.flush.ensures.zones)) _ (firm_lengths (bay_views c.args.self.now) c.args.device)

@@ -1,0 +1,165 @@
+ghost use Rattle.std.specs.Prelude.{◌≡◌, ◌<◌, ◌≤◌, true, false, length, map, replicate, IfOk, OnOk, OnErr};
+ghost use Rattle.zone_bay.specs.Outside.{counted};
+ghost use Rattle.bay_memory.specs.Past.{now, with_more, all_gone, all_firm, blank_track};
+ghost use Rattle.bay_memory.specs.Zone.{track_of};
+ghost use Rattle.bay_memory.specs.Device.{view_of, view_with, track_in, AreSteady, at_zone, ZonesGo, NotesFailure, KeepsFailures};
+
+use crate::zone::Zone;
+use std::alloc::{AllocError, Global};
+
+/// A device: its zones, and when calls on it failed.
+#[derive(Drop)]
+pub(crate) struct Device {
+    zones: Vec<Zone>,
+    /// How often it failed.
+    faults: u64,
+    /// The moments at which it failed, but for those for which no memory was found.
+    failed: Vec<u64>,
+    /// The first of those.
+    unnoted: Option<u64>,
+    /// Whether all calls on it fail until it is replaced.
+    lost: bool,
+}
+
+/// This many zones that hold nothing.
+fn blank_zones(alloc: Global, zones: u16) -> Result<Vec<Zone>, AllocError>
+    ensures { IfOk result (λ blank. map track_of blank.items ≡ replicate zones blank_track) }
+{
+    let mut blank = Vec::new(alloc);
+    for _zone in 0..zones {
+        blank.push(Zone::blank(alloc))?;
+    }
+    Ok(blank)
+}
+
+fn flush_each(zones: &mut [Zone], moment: u64)
+    requires { AreSteady moment (map track_of zones.old) }
+    ensures { ZonesGo moment (λ _. all_firm) (map track_of zones.old) (map track_of zones.new) }
+{
+    for zone in zones.iter_mut() {
+        zone.flush(moment);
+    }
+}
+
+fn reset_each(zones: &mut [Zone], moment: u64)
+    requires { AreSteady moment (map track_of zones.old) }
+    ensures { ZonesGo moment (λ _. all_gone) (map track_of zones.old) (map track_of zones.new) }
+{
+    for zone in zones.iter_mut() {
+        zone.reset(moment);
+    }
+}
+
+impl Device {
+    /// A device whose zones hold nothing.
+    pub fn blank(alloc: Global, zones: u16) -> Result<Device, AllocError>
+        ensures { IfOk result (λ device. view_of device ≡ view_with (replicate zones blank_track)) }
+    {
+        Ok(Device::of(alloc, blank_zones(alloc, zones)?))
+    }
+
+    /// A working device with these zones.
+    pub fn of(alloc: Global, zones: Vec<Zone>) -> Device
+        ensures { view_of result ≡ view_with (map track_of zones.items) }
+    {
+        Device {
+            zones,
+            faults: 0,
+            failed: Vec::new(alloc),
+            unnoted: None,
+            lost: false,
+        }
+    }
+
+    /// The bytes that a zone holds.
+    pub fn held(&self, zone: usize) -> &[u8]
+        requires { zone < length (view_of self.now).tracks }
+        ensures { result.now ≡ (now (track_in (view_of self.now).tracks zone)).bytes }
+    {
+        self.zones[zone].held()
+    }
+
+    /// How many of them are firm.
+    pub fn firm(&self, zone: usize) -> usize
+        requires { zone < length (view_of self.now).tracks }
+        ensures { result ≡ (now (track_in (view_of self.now).tracks zone)).firm }
+    {
+        self.zones[zone].firm()
+    }
+
+    pub fn is_lost(&self) -> bool
+        ensures { result ≡ (view_of self.now).lost }
+    {
+        self.lost
+    }
+
+    /// Puts the bytes at the end of a zone, all of them or none.
+    pub fn append(&mut self, moment: u64, zone: usize, bytes: &[u8]) -> Result<(), AllocError>
+        requires zone_in { zone < length (view_of self.old).tracks }
+        requires steady { AreSteady moment (view_of self.old).tracks }
+        ensures ok { OnOk result (ZonesGo moment (at_zone zone (with_more bytes.now)) (view_of self.old).tracks (view_of self.new).tracks) }
+        ensures err { OnErr result ((view_of self.new).tracks ≡ (view_of self.old).tracks) }
+        ensures failures { KeepsFailures (view_of self.old) (view_of self.new) }
+        ensures lost { (view_of self.new).lost ≡ (view_of self.old).lost }
+    {
+        self.zones[zone].append(moment, bytes)
+    }
+
+    /// Empties a zone.
+    pub fn reset(&mut self, moment: u64, zone: usize)
+        requires zone_in { zone < length (view_of self.old).tracks }
+        requires steady { AreSteady moment (view_of self.old).tracks }
+        ensures zones { ZonesGo moment (at_zone zone all_gone) (view_of self.old).tracks (view_of self.new).tracks }
+        ensures failures { KeepsFailures (view_of self.old) (view_of self.new) }
+        ensures lost { (view_of self.new).lost ≡ (view_of self.old).lost }
+    {
+        self.zones[zone].reset(moment);
+    }
+
+    /// Makes all that it holds firm.
+    pub fn flush(&mut self, moment: u64)
+        requires { AreSteady moment (view_of self.old).tracks }
+        ensures zones { ZonesGo moment (λ _. all_firm) (view_of self.old).tracks (view_of self.new).tracks }
+        ensures failures { KeepsFailures (view_of self.old) (view_of self.new) }
+        ensures lost { (view_of self.new).lost ≡ (view_of self.old).lost }
+    {
+        flush_each(&mut self.zones, moment);
+    }
+
+    /// Empties each zone. It works from now on.
+    pub fn replace(&mut self, moment: u64)
+        requires { AreSteady moment (view_of self.old).tracks }
+        ensures zones { ZonesGo moment (λ _. all_gone) (view_of self.old).tracks (view_of self.new).tracks }
+        ensures failures { KeepsFailures (view_of self.old) (view_of self.new) }
+        ensures lost { (view_of self.new).lost ≡ false }
+    {
+        reset_each(&mut self.zones, moment);
+        self.lost = false;
+    }
+
+    /// It is lost from now on.
+    pub fn lose(&mut self)
+        ensures zones { (view_of self.new).tracks ≡ (view_of self.old).tracks }
+        ensures failures { KeepsFailures (view_of self.old) (view_of self.new) }
+        ensures lost { (view_of self.new).lost ≡ true }
+    {
+        self.lost = true;
+    }
+
+    /// Counts a failed call and notes its moment.
+    pub fn fail(&mut self, moment: u64)
+        ensures zones { (view_of self.new).tracks ≡ (view_of self.old).tracks }
+        ensures faults { (view_of self.new).faults ≡ counted (view_of self.old).faults }
+        ensures no_fewer { (view_of self.old).faults ≤ (view_of self.new).faults }
+        ensures failures { NotesFailure moment (view_of self.old) (view_of self.new) }
+        ensures lost { (view_of self.new).lost ≡ (view_of self.old).lost }
+    {
+        self.faults = self.faults.saturating_add(1);
+        if self.failed.push(moment).is_err() {
+            self.unnoted = match self.unnoted {
+                Some(first) if first <= moment => Some(first),
+                _ => Some(moment),
+            };
+        }
+    }
+}
