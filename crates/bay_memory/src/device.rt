@@ -163,3 +163,24 @@ impl Device {
         }
     }
 }
+
+#[cfg(test)]
+mod tests {
+    use super::*;
+    use std::test::Fail;
+
+    #[test]
+    fn failures_are_noted(rt: HostRuntime) -> Result<(), Fail> {
+        let mut device = Device::blank(rt.alloc(), 1)?;
+        let mut other = Device::blank(rt.alloc(), 1)?;
+        device.fail(3);
+        device.fail(4);
+        other.fail(6);
+        device.fail(9);
+        assert_eq!(rt; device.failed.as_slice(), [3, 4, 9].as_slice());
+        assert_eq!(rt; (device.faults, device.unnoted), (3, None));
+        assert_eq!(rt; other.failed.as_slice(), [6].as_slice());
+        assert_eq!(rt; (other.faults, other.unnoted), (1, None));
+        Ok(())
+    }
+}

@@ -15,3 +15,6 @@ mod zone;
 pub use image::Image;
 pub use keep::Keep;
 pub use memory_bay::MemoryBay;
+
+#[cfg(test)]
+mod tests;
