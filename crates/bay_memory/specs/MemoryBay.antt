@@ -10,6 +10,7 @@ use Rattle.bay_memory.specs.Array.{view_at, track_at, contents_in, firm_in, fail
 use Rattle.bay_memory.specs.Views.{views_of, shape_of}
 use Rattle.bay_memory.specs.Image.{image_shape, image_bytes}
 use Rattle.bay_memory.specs.declared.asked.Asked.{Asked}
+use Rattle.bay_memory.specs.declared.image.Image.{Image}
 use Rattle.bay_memory.specs.declared.memory_bay.MemoryBay.{MemoryBay}
 
 abbrev pub bay_views : MemoryBay → List View
@@ -62,6 +63,13 @@ left_in views moment (During m) image = (m < moment) × (IsImage (contents_then 
 abbrev pub left_of : MemoryBay → Instant → Contents → Type 0
 left_of bay = left_in (bay_views bay) bay.moment
 
+-- the call whose image is asked for, and the image that is kept
+abbrev pub asked_of : MemoryBay → Option Asked
+asked_of bay = bay.asked
+
+abbrev pub stored_of : MemoryBay → Option Image
+stored_of bay = bay.kept
+
 -- the call that is made next is to fail, whatever its device
 abbrev pub IsDue : MemoryBay → Type 0
 IsDue bay = (bay_moment bay ≡ last) ⊎ Contains (listed_calls bay) (bay_moment bay)
@@ -72,25 +80,25 @@ IsDueOn device bay = IsDue bay ⊎ (lost_of bay device ≡ true)
 
 -- the image of the call that is made next is asked for
 abbrev pub IsAsked : MemoryBay → Type 0
-IsAsked bay = (asked : Asked) × (bay.asked ≡ Some asked) × (asked.call ≡ bay_moment bay)
+IsAsked bay = (asked : Asked) × (asked_of bay ≡ Some asked) × (asked.call ≡ bay_moment bay)
 
--- The call failed where it was to, and else only where an image is asked for, for want of memory.
+-- The call failed where it was to, and else only where an image is asked for.
 abbrev pub FailsIf : {T E : Type 0} → Type 0 → MemoryBay → Result T E → Type 0
 FailsIf due bay result = MatchResult result (λ _. ¬ due) (λ _. due ⊎ IsAsked bay)
 
--- the image that is kept: its shape and the bytes of each zone
+-- of the image that is kept, its shape and the bytes of each zone
 abbrev pub kept_of : MemoryBay → Option (Shape × Contents)
-kept_of bay = option_map (λ image. (image_shape image, image_bytes image)) bay.kept
+kept_of bay = option_map (λ image. (image_shape image, image_bytes image)) (stored_of bay)
 
 abbrev pub KeepsImage : Contents → MemoryBay → MemoryBay → Type 0
 KeepsImage image old new = kept_of new ≡ Some (bay_shape old, image)
 
--- A call whose image is asked for keeps it: all that was held, and where it is answered so many bytes of what it
--- appends. Where it fails for want of memory, it keeps none. Any other call leaves that as it was.
+-- A call whose image is asked for keeps it: where it is answered, all that was held and so many bytes of what it
+-- appends; where it fails, all that was held, or none. Any other call leaves that as it was.
 pub record TakesImage {T E : Type 0} (device zone : ℕ) (bytes : List ℕ) (old new : MemoryBay) (result : Result T E) : Type 0 where
-  pub not_asked : ¬ IsAsked old → (new.asked ≡ old.asked) × (new.kept ≡ old.kept)
-  pub no_longer : IsAsked old → new.asked ≡ None
-  pub done : (asked : Asked) → old.asked ≡ Some asked → asked.call ≡ bay_moment old → OnOk result (KeepsImage (appended device zone (take asked.bytes bytes) (contents_of old)) old new)
+  pub not_asked : ¬ IsAsked old → (asked_of new ≡ asked_of old) × (stored_of new ≡ stored_of old)
+  pub no_longer : IsAsked old → asked_of new ≡ None
+  pub done : (asked : Asked) → asked_of old ≡ Some asked → asked.call ≡ bay_moment old → OnOk result (KeepsImage (appended device zone (take asked.bytes bytes) (contents_of old)) old new)
   pub failed : IsAsked old → OnErr result ((kept_of new ≡ None) ⊎ KeepsImage (contents_of old) old new)
   -- it is one that a crash at that moment may leave
   pub allowed : (image : Contents) → IsAsked old → KeepsImage image old new → (i : Instant) × (moment_of i ≡ bay_moment old) × left_of new i image
@@ -103,8 +111,8 @@ pub record IsNew (bay : MemoryBay) : Type 0 where
   pub moment : bay_moment bay ≡ 0
   pub reads : reads_of bay ≡ 0
   pub listed : listed_calls bay ≡ []
-  pub asked : bay.asked ≡ None
-  pub kept : bay.kept ≡ None
+  pub asked : asked_of bay ≡ None
+  pub kept : stored_of bay ≡ None
 
 -- nothing is held, no call was made and none is to fail
 pub record IsBlank (devices zones blocks : ℕ) (bay : MemoryBay) : Type 0 where
@@ -133,5 +141,5 @@ pub record KeepsArray (old new : MemoryBay) : Type 0 where
 -- which calls are to fail or to be kept, and what is kept
 pub record KeepsRequests (old new : MemoryBay) : Type 0 where
   pub listed : listed_calls new ≡ listed_calls old
-  pub asked : new.asked ≡ old.asked
-  pub kept : new.kept ≡ old.kept
+  pub asked : asked_of new ≡ asked_of old
+  pub kept : stored_of new ≡ stored_of old

@@ -44,7 +44,7 @@ impl MemoryBay {
     ghost use Rattle.bay_memory.specs.declared.asked.Asked.{Asked};
     ghost use Rattle.bay_memory.specs.Image.{image_shape, image_bytes};
     ghost use Rattle.bay_memory.specs.Keep.{kept, IsLeft};
-    ghost use Rattle.bay_memory.specs.MemoryBay.{bay_views, bay_shape, contents_of, firm_of, faults_of, failed_of, lost_of, bay_moment, reads_of, listed_calls, kept_of, IsDue, IsAsked, KeepsImage, IsBlank, IsNew, NotesFault, KeepsArray, KeepsRequests};
+    ghost use Rattle.bay_memory.specs.MemoryBay.{bay_views, bay_shape, contents_of, firm_of, faults_of, failed_of, lost_of, bay_moment, reads_of, listed_calls, asked_of, stored_of, kept_of, IsDue, IsAsked, KeepsImage, IsBlank, IsNew, NotesFault, KeepsArray, KeepsRequests};
 
     /// A bay that holds nothing, has made no call and has no call listed. `Memory` comes too where a zone has 4 GiB
     /// or more.
@@ -89,7 +89,7 @@ impl MemoryBay {
         ensures ok { OnOk result (listed_calls self.new ≡ listed_calls self.old ++ calls.now) }
         ensures err { OnErr result (listed_calls self.new ≡ listed_calls self.old) }
         ensures array { KeepsArray self.old self.new }
-        ensures image { (self.new.asked ≡ self.old.asked) × (self.new.kept ≡ self.old.kept) }
+        ensures image { (asked_of self.new ≡ asked_of self.old) × (stored_of self.new ≡ stored_of self.old) }
     {
         self.listed.extend_from_slice(calls)?;
         Ok(())
@@ -129,7 +129,7 @@ impl MemoryBay {
     /// Asks for the image of the call that is made at this moment, when so many bytes of its append are done. A call
     /// that fails, a reset and a replace count as not done. An image that was asked for before is given up.
     pub fn image_at(&mut self, call: u64, bytes: u32)
-        ensures asked { self.new.asked ≡ Some (record { call = call; bytes = bytes }) }
+        ensures asked { asked_of self.new ≡ Some (record { call = call; bytes = bytes }) }
         ensures kept { kept_of self.new ≡ None }
         ensures listed { listed_calls self.new ≡ listed_calls self.old }
         ensures array { KeepsArray self.old self.new }
@@ -138,12 +138,12 @@ impl MemoryBay {
         self.kept = None;
     }
 
-    /// The image that was asked for. `None` where its call hasn't come yet, where that found no memory, or where the
-    /// image was given before.
+    /// The image that was asked for. `None` where its call hasn't come, was made before it was asked for, or found no
+    /// memory; where another request took its place; or where it was given before.
     pub fn taken(&mut self) -> Option<Image>
         ensures taken { option_map (λ image. (image_shape image, image_bytes image)) result ≡ kept_of self.old }
         ensures gone { kept_of self.new ≡ None }
-        ensures asked { self.new.asked ≡ self.old.asked }
+        ensures asked { asked_of self.new ≡ asked_of self.old }
         ensures listed { listed_calls self.new ≡ listed_calls self.old }
         ensures array { KeepsArray self.old self.new }
     {
@@ -237,6 +237,7 @@ impl MemoryBay {
         requires last { bay_moment self.old ≡ last → due ≡ true }
         ensures exact { MatchResult result (λ moment. (moment ≡ bay_moment self.old) × (due ≡ false)) (λ _. (due ≡ true) ⊎ IsAsked self.old) }
         ensures call { IsCallOn bay_shape bay_moment faults_of device self.old self.new result }
+        ensures count { OnErr result (faults_of self.new device ≡ counted (faults_of self.old device)) }
         ensures failure { TellsFailure device (bay_moment self.old) (failed_of self.old) (failed_of self.new) result }
         ensures tracks { KeepsTracks (bay_views self.old) (bay_views self.new) }
         ensures lost { lost_of self.new ≡ lost_of self.old }
@@ -278,6 +279,7 @@ impl Bay for MemoryBay {
     ghost use Rattle.zone_bay.specs.Bay.{IsCallOn, reads_after, Reads, Becomes, appended, emptied, blanked, BecomesInPart, BecomesOrStays};
     ghost use Rattle.zone_bay.specs.Images.{flushed, still_firm};
     ghost use Rattle.zone_bay.specs.Moments.{Elapses, TellsFailure};
+    ghost use Rattle.zone_bay.specs.Outside.{counted};
     ghost use Rattle.bay_memory.specs.Array.{with_lost};
     ghost use Rattle.bay_memory.specs.MemoryBay.{bay_views, bay_shape, contents_of, told, firm_of, left_of, faults_of, failed_of, lost_of, bay_moment, reads_of, listed_calls, IsDue, IsDueOn, IsAsked, FailsIf, TakesImage};
     ghost use Rattle.bay_memory.specs.Laws.{holds_firm, counts_image, only_image, none_during, none_past};
@@ -334,6 +336,7 @@ impl Bay for MemoryBay {
         ensures call { IsCallOn bay_shape bay_moment faults_of device self.old self.new result }
         ensures reads { reads_of self.new ≡ reads_of self.old }
         ensures time { Elapses told firm_of bay_moment left_of (λ held. held) self.old self.new result }
+        ensures count { OnErr result (faults_of self.new device ≡ counted (faults_of self.old device)) }
         ensures failure { TellsFailure device (bay_moment self.old) (failed_of self.old) (failed_of self.new) result }
         ensures listed { listed_calls self.new ≡ listed_calls self.old }
         ensures lost { lost_of self.new ≡ lost_of self.old }
@@ -355,6 +358,7 @@ impl Bay for MemoryBay {
         ensures call { IsCallOn bay_shape bay_moment faults_of device self.old self.new result }
         ensures reads { reads_of self.new ≡ reads_after (bay_shape self.old) device (reads_of self.old) }
         ensures time { Elapses told firm_of bay_moment left_of (λ held. held) self.old self.new result }
+        ensures count { OnErr result (faults_of self.new device ≡ counted (faults_of self.old device)) }
         ensures failure { TellsFailure device (bay_moment self.old) (failed_of self.old) (failed_of self.new) result }
         ensures listed { listed_calls self.new ≡ listed_calls self.old }
         ensures lost { lost_of self.new ≡ lost_of self.old }
@@ -381,6 +385,7 @@ impl Bay for MemoryBay {
         ensures call { IsCallOn bay_shape bay_moment faults_of device self.old self.new result }
         ensures reads { reads_of self.new ≡ reads_of self.old }
         ensures time { Elapses told firm_of bay_moment left_of (appended device zone bytes.now) self.old self.new result }
+        ensures count { OnErr result (faults_of self.new device ≡ counted (faults_of self.old device)) }
         ensures failure { TellsFailure device (bay_moment self.old) (failed_of self.old) (failed_of self.new) result }
         ensures listed { listed_calls self.new ≡ listed_calls self.old }
         ensures lost { lost_of self.new ≡ lost_of self.old }
@@ -406,6 +411,7 @@ impl Bay for MemoryBay {
         ensures call { IsCallOn bay_shape bay_moment faults_of device self.old self.new result }
         ensures reads { reads_of self.new ≡ reads_of self.old }
         ensures time { Elapses told firm_of bay_moment left_of (emptied device zone) self.old self.new result }
+        ensures count { OnErr result (faults_of self.new device ≡ counted (faults_of self.old device)) }
         ensures failure { TellsFailure device (bay_moment self.old) (failed_of self.old) (failed_of self.new) result }
         ensures listed { listed_calls self.new ≡ listed_calls self.old }
         ensures lost { lost_of self.new ≡ lost_of self.old }
@@ -426,6 +432,7 @@ impl Bay for MemoryBay {
         ensures call { IsCallOn bay_shape bay_moment faults_of device self.old self.new result }
         ensures reads { reads_of self.new ≡ reads_of self.old }
         ensures time { Elapses told firm_of bay_moment left_of (λ held. held) self.old self.new result }
+        ensures count { OnErr result (faults_of self.new device ≡ counted (faults_of self.old device)) }
         ensures failure { TellsFailure device (bay_moment self.old) (failed_of self.old) (failed_of self.new) result }
         ensures listed { listed_calls self.new ≡ listed_calls self.old }
         ensures lost { lost_of self.new ≡ lost_of self.old }
@@ -447,6 +454,7 @@ impl Bay for MemoryBay {
         ensures call { IsCallOn bay_shape bay_moment faults_of device self.old self.new result }
         ensures reads { reads_of self.new ≡ reads_of self.old }
         ensures time { Elapses told firm_of bay_moment left_of (blanked device) self.old self.new result }
+        ensures count { OnErr result (faults_of self.new device ≡ counted (faults_of self.old device)) }
         ensures failure { TellsFailure device (bay_moment self.old) (failed_of self.old) (failed_of self.new) result }
         ensures listed { listed_calls self.new ≡ listed_calls self.old }
         ensures lost { MatchResult result (λ _. lost_of self.new ≡ with_lost device false (bay_views self.old)) (λ _. lost_of self.new ≡ lost_of self.old) }

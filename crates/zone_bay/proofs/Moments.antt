@@ -64,3 +64,10 @@ failures_only r r' device device' moment moment' old mid new first then d m told
   ]
   | inr failed ↦ inr (inr failed)
 ]
+
+-- Where what crashes since old might leave by then has P, all that they may leave by the time of new has it.
+pub leaves_all : {B : Type 0} (moment : B → ℕ) (left : B → Instant → Contents → Type 0) (old new : B) (P : Instant → Contents → Type 0) → LeavesOnly moment left old new P → ((i : Instant) (image : Contents) → moment old ≤ moment_of i → left old i image → P i image) → (i : Instant) (image : Contents) → moment old ≤ moment_of i → left new i image → P i image
+leaves_all moment left old new P leaves by_then i image since is = elim (leaves.each i image is) [
+  | inl before ↦ by_then i image since before
+  | inr later ↦ later.1
+]

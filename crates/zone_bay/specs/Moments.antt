@@ -29,8 +29,8 @@ module _ {B T E : Type 0} (contents : B → Option Contents) (firm : B → Lengt
     pub in_call : OnOk result ((image : Contents) → LeftInCall change (contents old) (firm old) image → left new (During (moment old)) image)
     pub nothing_else : (i : Instant) (image : Contents) → left new i image → left old i image ⊎ LeftByCall i image
 
--- How a call adds to the moments of the failed calls of each device: a failed one adds its own. Where no memory is
--- found to note it, each later moment is told of that device too.
+-- How a call adds to the moments of the failed calls of each device: a failed one adds its own. From then on, a bay that
+-- can't note more may tell each later moment of that device.
 pub record TellsFailure {T E : Type 0} (device moment : ℕ) (failed_old failed_new : ℕ → ℕ → Type 0) (result : Result T E) : Type 0 where
   pub keeps : (d m : ℕ) → failed_old d m → failed_new d m
   pub told : OnErr result (failed_new device moment)

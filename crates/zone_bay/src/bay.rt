@@ -21,13 +21,13 @@ pub trait Bay {
     /// How many bytes of each zone are firm: a crash leaves at least these.
     ghost firm: { Self → Lengths };
 
-    /// What a crash at each instant so far may have left.
+    /// What a crash at each instant so far may have left, with all devices there.
     ghost left: { Self → Instant → Contents → Type 0 };
 
     /// How often each device has failed. It never falls.
     ghost faults: { Self → ℕ → ℕ };
 
-    /// At which moments calls on each device failed.
+    /// At which moments calls on each device failed, and perhaps at later ones.
     ghost failed_at: { Self → ℕ → ℕ → Type 0 };
 
     /// How many calls were made so far.
@@ -137,7 +137,7 @@ pub trait Bay {
     /// And nothing else, as long as the moment isn't the last one, at which each call fails.
     ghost only_now: { (bay : Self) (image : Contents) → moment bay < last → left bay (Between (moment bay)) image → ImageOf (contents bay) (firm bay) image };
 
-    /// No crash has come in the call that is made next.
+    /// Nothing is told yet of a crash in the call that is made next.
     ghost none_yet: { (bay : Self) (image : Contents) → moment bay < last → left bay (During (moment bay)) image → ⊥ };
 
     /// Nor later.

@@ -1,5 +1,6 @@
-use Rattle.std.proofs.Common.{◌∙◌, ℕ, refl, arith, inl}
+use Rattle.std.proofs.Common.{ap, ◌∙◌, ℕ, refl, arith, inl}
 use Rattle.zone_bay.specs.Bay.{appended}
+use Rattle.zone_bay.specs.Outside.{counted}
 use Rattle.zone_bay.specs.declared.failed.Failed.{Failed}
 use Rattle.bay_memory.specs.Past.{with_more}
 use Rattle.bay_memory.specs.Array.{in_zone, firm_in, failed_in}
@@ -92,3 +93,12 @@ returns-in-Err-clause-image c =
     (λ not. (gives.asked ∙ (begin.not_asked not).0, gives.kept (test_false c.is_asked-asked.result c.is_asked-asked.ensures not) ∙ (begin.not_asked not).1))
     (λ is. gives.asked ∙ begin.no_longer is)
     (λ is. inl (gives.given_up (test_true c.is_asked-asked.result c.is_asked-asked.ensures is)))
+
+pub returns-in_err-moment-clause-count : goal.returns-in_err-moment-clause-count
+returns-in_err-moment-clause-count c = on_err c.from_residual.result c.in_err-moment.ensures.count
+
+pub returns-in-Err-clause-count : goal.returns-in-Err-clause-count
+returns-in-Err-clause-count c =
+    let begin = c.in_ok-moment.ensures in
+    let fault = c.give_up.ensures.fault in
+    fault.faults ∙ ap (λ (f : ℕ → ℕ). counted (f c.args.device)) (faults_same _ c.args.device c.args.self.now c.begin.new.self (views_of c.append.new.self) begin.call c.append.ensures.failures)

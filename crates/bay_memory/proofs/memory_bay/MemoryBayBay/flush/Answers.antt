@@ -2,7 +2,7 @@ use Rattle.std.proofs.Common.{refl}
 use Rattle.bay_memory.specs.Past.{all_firm}
 use Rattle.bay_memory.specs.Array.{in_device}
 use Rattle.bay_memory.specs.MemoryBay.{bay_views, failed_of}
-use Rattle.bay_memory.proofs.Calls.{failed_time, failed_image, failed_failure, goes_after, next_of, failure_kept, changed_time, changed_image, told_changed, firm_changed, firm_bytes, firm_lengths}
+use Rattle.bay_memory.proofs.Calls.{on_err, failed_time, failed_image, failed_failure, goes_after, next_of, failure_kept, changed_time, changed_image, told_changed, firm_changed, firm_bytes, firm_lengths}
 use Rattle.bay_memory.proofs.memory_bay.MemoryBayBay.flush.Goals as goal
 
 pub returns-in_err-moment-clause-time : goal.returns-in_err-moment-clause-time
@@ -42,3 +42,6 @@ pub returns-clause-firm : goal.returns-clause-firm
 returns-clause-firm c =
     let begin = c.in_ok-moment.ensures in
     firm_changed c.args.self.now.moment (bay_views c.args.self.now) _ (in_device c.args.device all_firm) (goes_after c.args.self.now.moment (in_device c.args.device all_firm) (bay_views c.args.self.now) (bay_views c.begin.new.self) _ begin.tracks (rw begin.exact.0 at c.flush.ensures.zones)) _ (firm_lengths (bay_views c.args.self.now) c.args.device)
+
+pub returns-in_err-moment-clause-count : goal.returns-in_err-moment-clause-count
+returns-in_err-moment-clause-count c = on_err c.from_residual.result c.in_err-moment.ensures.count

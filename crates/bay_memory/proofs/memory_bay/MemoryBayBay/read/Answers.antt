@@ -1,6 +1,6 @@
 use Rattle.std.proofs.Common.{refl}
 use Rattle.bay_memory.specs.MemoryBay.{bay_views, failed_of}
-use Rattle.bay_memory.proofs.Calls.{failed_time, failed_image, failed_failure, told_kept, failure_same, next_of, unchanged_time, unchanged_image}
+use Rattle.bay_memory.proofs.Calls.{on_err, failed_time, failed_image, failed_failure, told_kept, failure_same, next_of, unchanged_time, unchanged_image}
 use Rattle.bay_memory.proofs.memory_bay.MemoryBayBay.read.Goals as goal
 
 pub returns-in_err-begin-clause-time : goal.returns-in_err-begin-clause-time
@@ -31,3 +31,6 @@ pub returns-clause-image : goal.returns-clause-image
 returns-clause-image c =
     let begin = c.in_ok-begin.ensures in
     unchanged_image _ c.args.self.now c.begin.new.self begin.tracks (next_of _ c.args.device _ c.begin.new.self begin.call) begin.call.later c.args.device c.args.zone begin.not_asked begin.no_longer begin.done
+
+pub returns-in_err-begin-clause-count : goal.returns-in_err-begin-clause-count
+returns-in_err-begin-clause-count c = on_err c.from_residual.result c.in_err-begin.ensures.count

@@ -3,7 +3,7 @@ use Rattle.zone_bay.specs.Bay.{blanked}
 use Rattle.bay_memory.specs.Past.{all_gone}
 use Rattle.bay_memory.specs.Array.{in_device}
 use Rattle.bay_memory.specs.MemoryBay.{bay_views, failed_of}
-use Rattle.bay_memory.proofs.Calls.{failed_time, failed_image, failed_failure, goes_after, next_of, failure_kept, changed_time, changed_image, told_changed, still_firm_changed, gone_firm, replaced_bytes}
+use Rattle.bay_memory.proofs.Calls.{on_err, failed_time, failed_image, failed_failure, goes_after, next_of, failure_kept, changed_time, changed_image, told_changed, still_firm_changed, gone_firm, replaced_bytes}
 use Rattle.bay_memory.proofs.memory_bay.MemoryBayBay.replace.Goals as goal
 
 pub returns-in_err-moment-clause-time : goal.returns-in_err-moment-clause-time
@@ -46,3 +46,6 @@ returns-clause-firm c =
 
 pub returns-clause-lost : goal.returns-clause-lost
 returns-clause-lost c = c.replace.ensures.lost ∙ ap {B = ℕ → Bool} (λ (lost : ℕ → Bool) d. cond (d == c.args.device) false (lost d)) c.begin.ensures.lost
+
+pub returns-in_err-moment-clause-count : goal.returns-in_err-moment-clause-count
+returns-in_err-moment-clause-count c = on_err c.from_residual.result c.in_err-moment.ensures.count
