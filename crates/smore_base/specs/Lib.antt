@@ -1,2 +1,4 @@
 pub mod Geometry
 pub mod Name
+pub mod Objects
+pub mod Told
