@@ -1,38 +1,26 @@
 -- What a crash leaves, for what is firm and what is held.
-use Rattle.std.proofs.Common.{◌≡◌, ◌≢◌, ◌⊎◌, ℕ, ◌+◌, ◌-◌, ◌≤◌, zero, suc, min, max, List, [], ◌∷◌, ◌++◌, length, take, refl, sym, ◌∙◌, ap, arith, inl, inr}
+use Rattle.std.proofs.Common.{◌≡◌, ◌≢◌, ◌⊎◌, ℕ, ◌+◌, ◌-◌, ◌≤◌, zero, suc, min, max, List, [], ◌∷◌, ◌++◌, length, take, refl, sym, subst, ◌∙◌, ap, arith, inl, inr}
 use Rattle.std.proofs.lemmas.Bool.{cases_eq, eq-eqb, ne_eqb, cases_lt}
-use Rattle.std.proofs.lemmas.List.{take_all, take_min, take-append-le}
+use Rattle.std.proofs.lemmas.List.{take_all, take_min, take-append-le, length-append}
+use Rattle.zone_bay.proofs.Extends.{at_zone, elsewhere, part_extends}
 use Rattle.std.proofs.Math.Seq.{take-append-add}
-use Rattle.zone_bay.specs.Bay.{Contents, with_zone, appended}
-use Rattle.zone_bay.specs.Images.{Lengths, IsFront, IsImage, flushed, still_firm, without, without_each}
-use Rattle.zone_bay.specs.Laws.{NoMoreFirm, FlushLeavesFewer, FlushKeepsDevice, FlushLeavesOthers, AppendLeavesOld, AppendLeavesPart, AppendLeavesAnyPart, AllFirmLeavesAll, HeldIsLeft, ResetLeavesNothing, ReplaceLeavesNothing, StillFirmIsHeld, StillFirmIsFirm, MissingLeavesImage, MissingEachLeaveImage, MissingOneByOne, MissingHoldNothing, OthersKeepTheirs}
+use Rattle.zone_bay.specs.Contents.{Contents, Lengths, appended}
+use Rattle.zone_bay.specs.Images.{IsFirmPrefix, IsImage, flushed, still_firm, without, without_each}
+use Rattle.zone_bay.specs.Laws.{NoMoreFirm, FlushLeavesFewer, FlushKeepsDevice, FlushLeavesOthers, AppendLeavesOld, AppendLeavesPart, AppendLeavesAnyPart, PartLeavesLess, MoreLeavesMore, LessFirmLeavesMore, StillFirmLeavesSame, AllFirmLeavesAll, HeldIsLeft, ResetLeavesNothing, ReplaceLeavesNothing, StillFirmIsHeld, StillFirmIsFirm, MissingLeavesImage, MissingEachLeaveImage, MissingOneByOne, MissingHoldNothing, OthersKeepTheirs}
 
 -- two contents with the same bytes in each zone
 pub same_contents : (f g : Contents) → ((d z : ℕ) → f d z ≡ g d z) → f ≡ g
 same_contents f g each = λ i d z. each d z i
 
--- one zone, and the others
-at_zone : (device zone : ℕ) (bytes : List ℕ) (held : Contents) → with_zone device zone bytes held device zone ≡ bytes
-at_zone device zone bytes held = rw (eq-eqb device device refl, eq-eqb zone zone refl) refl
-
-elsewhere : (device zone : ℕ) (bytes : List ℕ) (held : Contents) (P : ℕ → ℕ → List ℕ → Type 0) → P device zone bytes → ((d z : ℕ) → P d z (held d z)) → (d z : ℕ) → P d z (with_zone device zone bytes held d z)
-elsewhere device zone bytes held P here each d z = elim (cases_eq d device) [
-  | inl same ↦ elim (cases_eq z zone) [
-    | inl there ↦ rw (eq-eqb d device same, eq-eqb z zone there, same, there) here
-    | inr other ↦ rw (eq-eqb d device same, ne_eqb z zone other) (each d z)
-  ]
-  | inr other ↦ rw (ne_eqb d device other) (each d z)
-]
-
 -- Where less is firm, no fewer images are left.
-pub image_of_less_firm : (held : Contents) (less more : Lengths) → ((d z : ℕ) → less d z ≤ more d z) → (image : Contents) → IsImage held more image → IsImage held less image
-image_of_less_firm held less more below image is d z = (
+pub less_firm_leaves_more : LessFirmLeavesMore
+less_firm_leaves_more held less more image below is d z = (
   (is d z).0,
   (let a = below d z in let b = (is d z).1 in omega arith),
   (is d z).2,
 )
 
-flushed_no_less : (held : Contents) (firm : Lengths) (device : ℕ) → NoMoreFirm held firm → (d z : ℕ) → firm d z ≤ flushed device held firm d z
+pub flushed_no_less : (held : Contents) (firm : Lengths) (device : ℕ) → NoMoreFirm held firm → (d z : ℕ) → firm d z ≤ flushed device held firm d z
 flushed_no_less held firm device within d z =
     let room = within d z in
     elim (cases_eq d device) [
@@ -41,16 +29,16 @@ flushed_no_less held firm device within d z =
     ]
 
 pub flush_leaves_fewer : FlushLeavesFewer
-flush_leaves_fewer held firm device image within is = image_of_less_firm held firm (flushed device held firm) (flushed_no_less held firm device within) image is
+flush_leaves_fewer held firm device image within is = less_firm_leaves_more held firm (flushed device held firm) image (flushed_no_less held firm device within) is
 
 -- all of a zone that is firm whole
-whole_front : (held left : List ℕ) → IsFront held (length held) left → left ≡ held
-whole_front held left (n, enough, is) = is ∙ take_all n held enough
+whole_prefix : (held left : List ℕ) → IsFirmPrefix held (length held) left → left ≡ held
+whole_prefix held left (n, enough, is) = is ∙ take_all n held enough
 
 pub flush_keeps_device : FlushKeepsDevice
 flush_keeps_device held firm device image is z =
-    let front : IsFront (held device z) (flushed device held firm device z) (image device z) = is device z in
-    whole_front (held device z) (image device z) (rw (eq-eqb device device refl) at front)
+    let prefix : IsFirmPrefix (held device z) (flushed device held firm device z) (image device z) = is device z in
+    whole_prefix (held device z) (image device z) (rw (eq-eqb device device refl) at prefix)
 
 pub flush_leaves_others : FlushLeavesOthers
 flush_leaves_others held firm device image is whole d z = elim (cases_eq d device) [
@@ -59,13 +47,13 @@ flush_leaves_others held firm device image is whole d z = elim (cases_eq d devic
 ]
 
 pub all_firm_leaves_all : AllFirmLeavesAll
-all_firm_leaves_all held firm image all is = same_contents image held (λ d z. whole_front (held d z) (image d z) (rw (all d z) at (is d z)))
+all_firm_leaves_all held firm image all is = same_contents image held (λ d z. whole_prefix (held d z) (image d z) (rw (all d z) at (is d z)))
 
 pub held_is_left : HeldIsLeft
 held_is_left held firm d z = (max (firm d z) (length (held d z)), omega arith, sym (take_all _ (held d z) (omega arith)))
 
 -- What a crash may leave of a zone, it may leave where more stands behind it.
-more_behind : (held bytes : List ℕ) (firm : ℕ) (left : List ℕ) → firm ≤ length held → IsFront held firm left → IsFront (held ++ bytes) firm left
+more_behind : (held bytes : List ℕ) (firm : ℕ) (left : List ℕ) → firm ≤ length held → IsFirmPrefix held firm left → IsFirmPrefix (held ++ bytes) firm left
 more_behind held bytes firm left within (n, enough, is) = elim (cases_lt n (length held)) [
   | inl short ↦ (n, enough, is ∙ sym (take-append-le n held bytes (omega arith)))
   | inr long ↦ (length held, within, is ∙ take_all n held long ∙ sym (take-append-le (length held) held bytes (omega arith) ∙ take_all (length held) held (omega arith)))
@@ -73,7 +61,7 @@ more_behind held bytes firm left within (n, enough, is) = elim (cases_lt n (leng
 
 pub append_leaves_old : AppendLeavesOld
 append_leaves_old held firm device zone bytes image within is =
-    elsewhere device zone (held device zone ++ bytes) held (λ d z now. IsFront now (firm d z) (image d z))
+    elsewhere device zone (held device zone ++ bytes) held (λ d z now. IsFirmPrefix now (firm d z) (image d z))
     (more_behind (held device zone) bytes (firm device zone) (image device zone) (within device zone) (is device zone))
     is
 
@@ -90,8 +78,19 @@ append_leaves_any_part held firm device zone bytes image n within is d z = elim 
   | inr other ↦ rw (ne_eqb d device other) (is d z)
 ]
 
+pub more_leaves_more : MoreLeavesMore
+more_leaves_more held more firm image within extends is d z =
+    subst (λ (l : List ℕ). IsFirmPrefix l (firm d z) (image d z)) (sym (extends d z).1) (more_behind (held d z) (extends d z).0 (firm d z) (image d z) (within d z) (is d z))
+
+pub part_leaves_less : PartLeavesLess
+part_leaves_less held firm device zone bytes n image within is =
+    more_leaves_more (appended device zone (take n bytes) held) (appended device zone bytes held) firm image within_part (part_extends device zone n bytes held) is
+  where
+    within_part : NoMoreFirm (appended device zone (take n bytes) held) firm
+    within_part = elsewhere device zone (held device zone ++ take n bytes) held (λ d z now. firm d z ≤ length now) (let w = within device zone in omega (arith, length-append (held device zone) (take n bytes))) within
+
 -- the part that stands behind all that was held, or the image as it was
-part_behind : (held bytes : List ℕ) (firm : ℕ) (left : List ℕ) → IsFront (held ++ bytes) firm left → IsFront held firm left ⊎ ((n : ℕ) × (n ≤ length bytes) × (left ≡ held ++ take n bytes))
+part_behind : (held bytes : List ℕ) (firm : ℕ) (left : List ℕ) → IsFirmPrefix (held ++ bytes) firm left → IsFirmPrefix held firm left ⊎ ((n : ℕ) × (n ≤ length bytes) × (left ≡ held ++ take n bytes))
 part_behind held bytes firm left (n, enough, is) = elim (cases_lt n (length held)) [
   | inl short ↦ inl (n, enough, is ∙ take-append-le n held bytes (omega arith))
   | inr long ↦ inr (
@@ -103,13 +102,13 @@ part_behind held bytes firm left (n, enough, is) = elim (cases_lt n (length held
 
 pub append_leaves_part : AppendLeavesPart
 append_leaves_part held firm device zone bytes image is =
-    let there : IsFront (held device zone ++ bytes) (firm device zone) (image device zone) = rw (at_zone device zone (held device zone ++ bytes) held) at (is device zone) in
+    let there : IsFirmPrefix (held device zone ++ bytes) (firm device zone) (image device zone) = rw (at_zone device zone (held device zone ++ bytes) held) at (is device zone) in
     elim (part_behind (held device zone) bytes (firm device zone) (image device zone) there) [
       | inl old ↦ inl (as_before held firm device zone bytes image old is)
       | inr part ↦ inr part
     ]
   where
-    as_before : (held : Contents) (firm : Lengths) (device zone : ℕ) (bytes : List ℕ) (image : Contents) → IsFront (held device zone) (firm device zone) (image device zone) → IsImage (appended device zone bytes held) firm image → IsImage held firm image
+    as_before : (held : Contents) (firm : Lengths) (device zone : ℕ) (bytes : List ℕ) (image : Contents) → IsFirmPrefix (held device zone) (firm device zone) (image device zone) → IsImage (appended device zone bytes held) firm image → IsImage held firm image
     as_before held firm device zone bytes image old is d z = elim (cases_eq d device) [
       | inl same ↦ elim (cases_eq z zone) [
         | inl there ↦ rw (same, there) old
@@ -118,7 +117,7 @@ append_leaves_part held firm device zone bytes image is =
       | inr other ↦ rw (ne_eqb d device other) at (is d z)
     ]
 
-nothing_left : (firm : ℕ) (left : List ℕ) → IsFront [] firm left → left ≡ []
+nothing_left : (firm : ℕ) (left : List ℕ) → IsFirmPrefix [] firm left → left ≡ []
 nothing_left firm left (n, enough, is) = is ∙ take_all n [] (omega arith)
 
 pub reset_leaves_nothing : ResetLeavesNothing
@@ -136,6 +135,20 @@ still_firm_is_firm held firm within i d z = same d z i
     same : (d z : ℕ) → still_firm held firm d z ≡ firm d z
     same d z = let a = within d z in omega arith
 
+-- a prefix with as much of the firm bytes as the zone holds
+still_prefix : (held : List ℕ) (firm : ℕ) (left : List ℕ) → IsFirmPrefix held (min firm (length held)) left → IsFirmPrefix held firm left
+still_prefix held firm left (n, enough, is) = (
+  max n firm,
+  omega arith,
+  is ∙ elim (cases_lt n firm) [
+    | inl below ↦ take_all n held (omega arith) ∙ sym (take_all (max n firm) held (omega arith))
+    | inr above ↦ ap (λ (m : ℕ). take m held) (let e : n ≡ max n firm = omega arith in e)
+  ],
+)
+
+pub still_firm_leaves_same : StillFirmLeavesSame
+still_firm_leaves_same held firm image is d z = still_prefix (held d z) (firm d z) (image d z) (is d z)
+
 -- Devices that are missing.
 without_same : (device : ℕ) (image : Contents) (d z : ℕ) → d ≡ device → without device image d z ≡ []
 without_same device image d z same = rw (eq-eqb d device same) refl
@@ -143,12 +156,12 @@ without_same device image d z same = rw (eq-eqb d device same) refl
 without_other : (device : ℕ) (image : Contents) (d z : ℕ) → d ≢ device → without device image d z ≡ image d z
 without_other device image d z other = rw (ne_eqb d device other) refl
 
-no_front : (firm : ℕ) → IsFront [] firm []
-no_front firm = (firm, omega arith, sym (take_all firm [] (omega arith)))
+no_prefix : (firm : ℕ) → IsFirmPrefix [] firm []
+no_prefix firm = (firm, omega arith, sym (take_all firm [] (omega arith)))
 
 pub missing_leaves_image : MissingLeavesImage
 missing_leaves_image held firm device image is d z = elim (cases_eq d device) [
-  | inl same ↦ rw (eq-eqb d device same) (no_front (firm d z))
+  | inl same ↦ rw (eq-eqb d device same) (no_prefix (firm d z))
   | inr other ↦ rw (ne_eqb d device other) (is d z)
 ]
 

@@ -1,4 +1,6 @@
 pub mod Calls
+pub mod Counts
+pub mod Extends
 pub mod Images
-pub mod Moments
-pub mod Tells
+pub mod Stretch
+pub mod Toward

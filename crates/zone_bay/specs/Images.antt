@@ -1,28 +1,19 @@
--- What a crash may leave of what a bay holds.
-use Rattle.std.specs.Prelude.{◌≡◌, ◌⊎◌, ℕ, ◌≤◌, ◌==◌, min, List, [], ◌∷◌, length, take, Option, None, Some, option_map, if◌then◌else◌}
-use Rattle.zone_bay.specs.Bay.{Contents, blanked}
+-- What a crash may leave of what zones hold, and when a crash may come.
+use Rattle.std.specs.Prelude.{◌≡◌, ℕ, ◌≤◌, ◌==◌, min, List, [], ◌∷◌, length, take, Option, None, Some, if◌then◌else◌}
+use Rattle.zone_bay.specs.Contents.{Contents, Lengths, blanked}
 
--- how many bytes of each zone are firm, by device and zone
-abbrev pub Lengths : Type 0
-Lengths = ℕ → ℕ → ℕ
+-- a prefix of what the zone holds, with at least so many bytes of it
+abbrev pub IsFirmPrefix : List ℕ → ℕ → List ℕ → Type 0
+IsFirmPrefix held firm left = (n : ℕ) × (firm ≤ n) × (left ≡ take n held)
 
--- a first part of what the zone holds, with at least so many bytes of it
-abbrev pub IsFront : List ℕ → ℕ → List ℕ → Type 0
-IsFront held firm left = (n : ℕ) × (firm ≤ n) × (left ≡ take n held)
-
--- A crash leaves of each zone a first part of what it holds, with at least the firm bytes.
+-- A crash leaves of each zone a prefix of what it holds, with at least the firm bytes.
 abbrev pub IsImage : Contents → Lengths → Contents → Type 0
-IsImage held firm image = (d z : ℕ) → IsFront (held d z) (firm d z) (image d z)
+IsImage held firm image = (d z : ℕ) → IsFirmPrefix (held d z) (firm d z) (image d z)
 
 -- an image of the contents, where they are told
 abbrev pub ImageOf : Option Contents → Lengths → Contents → Type 0
 ImageOf None firm image = ⊥
 ImageOf (Some held) firm image = IsImage held firm image
-
--- A crash in a call leaves an image of what was held before it, or of what the call makes of that. None of the bytes
--- that an append puts there is firm, so the second leaves any first part of them.
-abbrev pub LeftInCall : (Contents → Contents) → Option Contents → Lengths → Contents → Type 0
-LeftInCall change held firm image = ImageOf held firm image ⊎ ImageOf (option_map change held) firm image
 
 -- All that the device holds is firm. The other devices stay as they were.
 abbrev pub flushed : ℕ → Contents → Lengths → Lengths
@@ -40,3 +31,17 @@ without device image = blanked device image
 abbrev pub without_each : List ℕ → Contents → Contents
 without_each [] image = image
 without_each (device ∷ more) image = without_each more (without device image)
+
+-- when a crash comes: between two calls, after so many of them, or in the call that is made after so many
+pub data Instant : Type 0 where
+  Between : ℕ → Instant
+  During : ℕ → Instant
+
+-- how many calls were made before it
+abbrev pub moment_of : Instant → ℕ
+moment_of (Between m) = m
+moment_of (During m) = m
+
+-- a crash since the moment may have left the image
+abbrev pub LeftSince : (Instant → Contents → Type 0) → ℕ → Contents → Type 0
+LeftSince left moment image = (i : Instant) × (moment ≤ moment_of i) × left i image

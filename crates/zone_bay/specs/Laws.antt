@@ -1,8 +1,8 @@
 -- What follows from what a crash leaves.
-use Rattle.std.specs.Prelude.{◌≡◌, ◌⊎◌, ℕ, ◌≤◌, List, [], ◌++◌, length, take, Option, Contains}
-use Rattle.zone_bay.specs.Bay.{Contents, with_zone, appended, emptied, blanked}
-use Rattle.zone_bay.specs.Images.{Lengths, IsImage, ImageOf, flushed, still_firm, without, without_each}
-use Rattle.zone_bay.specs.Moments.{Instant, LeftSince}
+use Rattle.std.specs.Prelude.{◌≡◌, ◌⊎◌, ℕ, ◌≤◌, List, [], ◌++◌, length, take, Contains}
+use Rattle.zone_bay.specs.Contents.{Contents, Lengths, with_zone, appended, emptied, blanked, Extends}
+use Rattle.zone_bay.specs.Images.{IsImage, flushed, still_firm, without, without_each, Instant, LeftSince}
+use Rattle.zone_bay.specs.Bay.{BayState, IsImageNow}
 
 -- no more is firm than is held
 abbrev pub NoMoreFirm : Contents → Lengths → Type 0
@@ -24,13 +24,29 @@ FlushLeavesOthers = (held : Contents) (firm : Lengths) (device : ℕ) (image : C
 abbrev pub AppendLeavesOld : Type 0
 AppendLeavesOld = (held : Contents) (firm : Lengths) (device zone : ℕ) (bytes : List ℕ) (image : Contents) → NoMoreFirm held firm → IsImage held firm image → IsImage (appended device zone bytes held) firm image
 
--- What else a crash may leave after an append has all that the zone held, and then a first part of the bytes.
+-- What else a crash may leave after an append has all that the zone held, and then a prefix of the bytes.
 abbrev pub AppendLeavesPart : Type 0
 AppendLeavesPart = (held : Contents) (firm : Lengths) (device zone : ℕ) (bytes : List ℕ) (image : Contents) → IsImage (appended device zone bytes held) firm image → IsImage held firm image ⊎ ((n : ℕ) × (n ≤ length bytes) × (image device zone ≡ held device zone ++ take n bytes))
 
--- And that may be any first part of them.
+-- And that may be any prefix of them.
 abbrev pub AppendLeavesAnyPart : Type 0
 AppendLeavesAnyPart = (held : Contents) (firm : Lengths) (device zone : ℕ) (bytes : List ℕ) (image : Contents) (n : ℕ) → NoMoreFirm held firm → IsImage held firm image → IsImage (appended device zone bytes held) firm (with_zone device zone (held device zone ++ take n bytes) image)
+
+-- What a crash may leave of an append's prefix, it may leave of the whole append.
+abbrev pub PartLeavesLess : Type 0
+PartLeavesLess = (held : Contents) (firm : Lengths) (device zone : ℕ) (bytes : List ℕ) (n : ℕ) (image : Contents) → NoMoreFirm held firm → IsImage (appended device zone (take n bytes) held) firm image → IsImage (appended device zone bytes held) firm image
+
+-- What a crash may leave, it may leave where more stands behind what is held.
+abbrev pub MoreLeavesMore : Type 0
+MoreLeavesMore = (held more : Contents) (firm : Lengths) (image : Contents) → NoMoreFirm held firm → Extends held more → IsImage held firm image → IsImage more firm image
+
+-- It may leave it, too, where less is firm.
+abbrev pub LessFirmLeavesMore : Type 0
+LessFirmLeavesMore = (held : Contents) (less more : Lengths) (image : Contents) → ((d z : ℕ) → less d z ≤ more d z) → IsImage held more image → IsImage held less image
+
+-- What is no longer held needn't be firm: it makes no difference to what a crash may leave.
+abbrev pub StillFirmLeavesSame : Type 0
+StillFirmLeavesSame = (held : Contents) (firm : Lengths) (image : Contents) → IsImage held (still_firm held firm) image → IsImage held firm image
 
 -- Where all that is held is firm, a crash leaves nothing else.
 abbrev pub AllFirmLeavesAll : Type 0
@@ -88,10 +104,10 @@ OthersKeepTheirs = (devices : List ℕ) (image : Contents) (d z : ℕ) → ¬ Co
 abbrev pub LaterLeavesFewer : (Instant → Contents → Type 0) → Type 0
 LaterLeavesFewer left = (earlier later : ℕ) (image : Contents) → earlier ≤ later → LeftSince left later image → LeftSince left earlier image
 
--- Crashes since the moment may have left nothing but images of what is held.
-abbrev pub LeavesOnlyImages : Option Contents → Lengths → (Instant → Contents → Type 0) → ℕ → Type 0
-LeavesOnlyImages held firm left moment = (image : Contents) → LeftSince left moment image → ImageOf held firm image
+-- Crashes since now may have left nothing but images of what is held.
+abbrev pub LeavesOnlyImages : BayState → Type 0
+LeavesOnlyImages bay = (image : Contents) → LeftSince bay.left bay.moment image → IsImageNow bay image
 
--- Crashes since the moment may have left each image of what is held.
-abbrev pub LeavesEachImage : Option Contents → Lengths → (Instant → Contents → Type 0) → ℕ → Type 0
-LeavesEachImage held firm left moment = (image : Contents) → ImageOf held firm image → LeftSince left moment image
+-- Crashes since any moment so far may have left each image of what is held.
+abbrev pub LeavesEachImage : BayState → Type 0
+LeavesEachImage bay = (moment : ℕ) (image : Contents) → moment ≤ bay.moment → IsImageNow bay image → LeftSince bay.left moment image

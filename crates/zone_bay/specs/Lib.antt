@@ -1,5 +1,8 @@
 pub mod Bay
+pub mod Contents
+pub mod Counts
 pub mod Images
 pub mod Laws
-pub mod Moments
 pub mod Outside
+pub mod Stretch
+pub mod Testing

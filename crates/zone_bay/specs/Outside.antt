@@ -1,5 +1,5 @@
--- What each object of the outside tells: a count of its faults, and perhaps its bytes.
-use Rattle.std.specs.Prelude.{◌≡◌, ℕ, ◌+◌, ◌-◌, ◌^◌, ◌<◌, ◌≤◌, min, Option, Some, None, Result, OnOk, OnErr, ⊤}
+-- What each object of the outside tells: a count of its faults.
+use Rattle.std.specs.Prelude.{◌≡◌, ℕ, ◌+◌, ◌-◌, ◌^◌, ◌<◌, ◌≤◌, min, Result, OnOk, OnErr}
 
 -- the last value of a count: it has 64 bits
 abbrev pub last : ℕ
@@ -18,10 +18,3 @@ pub record HasCause {T E : Type 0} (result : Result T E) (before after : ℕ) : 
   pub keeps : before ≤ after
   pub ok : OnOk result (after ≡ before)
   pub err : OnErr result (Rose before after)
-
--- A fact of what is told before and after. What is told once is always told.
-abbrev pub Told : {A B : Type 0} → Option A → Option B → (A → B → Type 0) → Type 0
-Told None None P = ⊤
-Told (Some before) (Some after) P = P before after
-Told None (Some after) P = ⊥
-Told (Some before) None P = ⊥

@@ -1,8 +1,6 @@
 //! What follows from what a crash leaves. These functions do nothing: their contracts are the theorems.
 
-ghost use Rattle.std.specs.Prelude.{ℕ, ◌<◌, ◌≤◌};
-ghost use Rattle.zone_bay.specs.Laws.{FlushLeavesFewer, FlushKeepsDevice, FlushLeavesOthers, AppendLeavesOld, AppendLeavesPart, AppendLeavesAnyPart, AllFirmLeavesAll, HeldIsLeft, ResetLeavesNothing, ReplaceLeavesNothing, StillFirmIsHeld, StillFirmIsFirm, MissingLeavesImage, MissingEachLeaveImage, MissingInAnyOrder, MissingTwice, MissingOneByOne, MissingHoldNothing, OthersKeepTheirs, LaterLeavesFewer, LeavesOnlyImages, LeavesEachImage};
-ghost use Rattle.zone_bay.specs.Outside.{last};
+ghost use Rattle.zone_bay.specs.Laws.{FlushLeavesFewer, FlushKeepsDevice, FlushLeavesOthers, AppendLeavesOld, AppendLeavesPart, AppendLeavesAnyPart, PartLeavesLess, MoreLeavesMore, LessFirmLeavesMore, StillFirmLeavesSame, AllFirmLeavesAll, HeldIsLeft, ResetLeavesNothing, ReplaceLeavesNothing, StillFirmIsHeld, StillFirmIsFirm, MissingLeavesImage, MissingEachLeaveImage, MissingInAnyOrder, MissingTwice, MissingOneByOne, MissingHoldNothing, OthersKeepTheirs, LaterLeavesFewer, LeavesOnlyImages, LeavesEachImage};
 
 use crate::Bay;
 
@@ -13,11 +11,20 @@ pub fn flush_leaves_fewer()
     ensures others { FlushLeavesOthers }
 {}
 
-/// An append only adds to what a crash may leave: of the zone all that was held, and of the bytes any first part.
+/// An append only adds to what a crash may leave: of the zone all that was held, and of the bytes any prefix. What a
+/// prefix of the bytes would leave, the whole may leave.
 pub fn append_leaves_more()
     ensures old { AppendLeavesOld }
     ensures part { AppendLeavesPart }
     ensures any { AppendLeavesAnyPart }
+    ensures less { PartLeavesLess }
+{}
+
+/// What a crash may leave, it may leave where more stands behind what is held, and where less of it is firm.
+pub fn more_leaves_more()
+    ensures held { MoreLeavesMore }
+    ensures firm { LessFirmLeavesMore }
+    ensures still { StillFirmLeavesSame }
 {}
 
 /// Where all is firm, a crash leaves all.
@@ -47,7 +54,7 @@ pub fn missing_devices()
 
 /// What crashes since a moment may have left of any bay.
 pub fn instants<B: Bay>()
-    ensures since { (bay : B) → LaterLeavesFewer (B.left bay) }
-    ensures now { (bay : B) → B.moment bay < last → LeavesOnlyImages (B.contents bay) (B.firm bay) (B.left bay) (B.moment bay) }
-    ensures held { (bay : B) (moment : ℕ) → moment ≤ B.moment bay → LeavesEachImage (B.contents bay) (B.firm bay) (B.left bay) moment }
+    ensures since { (bay : B) → LaterLeavesFewer (B.state bay).left }
+    ensures now { (bay : B) → LeavesOnlyImages (B.state bay) }
+    ensures held { (bay : B) → LeavesEachImage (B.state bay) }
 {}

@@ -9,7 +9,7 @@ pub use bay::Bay;
 pub use failed::Failed;
 pub use laws::{
     all_firm_leaves_all, append_leaves_more, flush_leaves_fewer, instants, missing_devices,
-    reset_leaves_nothing,
+    more_leaves_more, reset_leaves_nothing,
 };
 
 #[cfg(test)]

@@ -1,3 +1,9 @@
+ghost use Rattle.std.specs.Prelude.{◌≡◌, ℕ, ◌+◌, ◌*◌, ◌<◌, ◌≤◌, length, option_map, IfSome, IfErr};
+ghost use Rattle.zone_bay.specs.Contents.{Contents, Lengths, Extends};
+ghost use Rattle.zone_bay.specs.Images.{ImageOf};
+ghost use Rattle.zone_bay.specs.Stretch.{GoesOn, FailsOver};
+ghost use Rattle.zone_bay.specs.Testing.{on_both};
+
 use super::*;
 use std::test::Fail;
 
@@ -14,12 +20,12 @@ struct CountingBay {
 
 impl CountingBay {
     ghost use Rattle.std.specs.Prelude.{◌≡◌, ◌<◌};
-    ghost use Rattle.zone_bay.specs.Bay.{IsCallOn};
+    ghost use Rattle.zone_bay.specs.Counts.{CountsCall};
 
     /// Counts a call on the device, and lets it fail where it is to.
     fn begin(&mut self, device: u8) -> Result<(), Failed>
         requires { device < 2 }
-        ensures call { IsCallOn ⟦<CountingBay as Bay>⟧.shape ⟦<CountingBay as Bay>⟧.moment ⟦<CountingBay as Bay>⟧.faults device self.old self.new result }
+        ensures call { CountsCall device (⟦<CountingBay as Bay>⟧.state self.old) (⟦<CountingBay as Bay>⟧.state self.new) result }
         ensures reads { self.new.reads ≡ self.old.reads }
     {
         let fails = device == self.broken || self.moment == u64::MAX;
@@ -34,33 +40,12 @@ impl CountingBay {
 }
 
 impl Bay for CountingBay {
-    ghost use Rattle.std.specs.Prelude.{None, slice_index};
+    ghost use Rattle.std.specs.Prelude.{slice_index};
+    ghost use Rattle.zone_bay.specs.Counts.{counts_alone, counts_are_sound};
 
-    ghost shape = { λ _. record { devices = 2; zones = 4; blocks = 128 } };
+    ghost state = { λ bay. counts_alone (record { shape = record { devices = 2; zones = 4; blocks = 128 }; faults = λ device. slice_index bay.faults device; moment = bay.moment; reads = bay.reads }) };
 
-    ghost contents = { λ _. None };
-
-    ghost firm = { λ _ _ _. 0 };
-
-    ghost left = { λ _ _ _. ⊥ };
-
-    ghost faults = { λ bay device. slice_index bay.faults device };
-
-    ghost failed_at = { λ _ _ _. Unit {0} };
-
-    ghost moment = { λ bay. bay.moment };
-
-    ghost reads = { λ bay. bay.reads };
-
-    ghost firm_held = { λ bay. tt };
-
-    ghost counts_now = { λ bay image is. is };
-
-    ghost only_now = { λ bay image early is. absurd is };
-
-    ghost none_yet = { λ bay image early is. is };
-
-    ghost none_later = { λ bay i image is. absurd is };
+    ghost sound = { λ bay. counts_are_sound _ };
 
     fn devices(&self) -> u8 {
         2
@@ -107,6 +92,33 @@ impl Bay for CountingBay {
     }
 }
 
+/// Puts the bytes at the end of a zone of devices 0 and 1, and makes them firm on device 0. Where a call fails, it tells the
+/// device.
+fn append_both<B: Bay>(bay: &mut B, zone: u16, bytes: &[u8]) -> Result<(), u8>
+    requires devices { 2 ≤ (B.state bay.old).shape.devices }
+    requires zone_in { zone < (B.state bay.old).shape.zones }
+    requires fits { IfSome (B.state bay.old).contents
+        (λ held. (d : ℕ) → length (held d zone) + length bytes.now ≤ 512 * (B.state bay.old).shape.blocks) }
+    // A crash since leaves an image of what was held with the bytes on both, and the firm lengths of before.
+    ensures goes_on { GoesOn (B.state bay.old) (B.state bay.new)
+        (λ _ image. ImageOf (option_map (on_both zone bytes.now) (B.state bay.old).contents) (B.state bay.old).firm image)
+        (λ d _. IfErr result (λ device. d ≡ device)) }
+    // The device failed over what was held on the way there.
+    ensures failed { IfErr result (λ device. IfSome (B.state bay.old).contents
+        (λ held. (moment : ℕ) × (at : Contents) × (firm : Lengths) × Extends at (on_both zone bytes.now held) × FailsOver device moment at firm (B.state bay.new))) }
+{
+    if bay.append(0, zone, bytes).is_err() {
+        return Err(0);
+    }
+    if bay.append(1, zone, bytes).is_err() {
+        return Err(1);
+    }
+    if bay.flush(0).is_err() {
+        return Err(0);
+    }
+    Ok(())
+}
+
 #[test]
 fn each_call_counts(rt: HostRuntime) -> Result<(), Fail> {
     let mut bay = CountingBay {
@@ -124,6 +136,8 @@ fn each_call_counts(rt: HostRuntime) -> Result<(), Fail> {
     bay.flush(0)?;
     bay.replace(0)?;
     assert_eq!(rt; (bay.moment(), bay.reads, bay.faults), (7, 1, [0, 1]));
+    assert_eq!(rt; append_both(&mut bay, 2, b"ab"), Err(1));
+    assert_eq!(rt; (bay.moment(), bay.faults), (9, [0, 2]));
     Ok(())
 }
 
@@ -131,6 +145,7 @@ fn each_call_counts(rt: HostRuntime) -> Result<(), Fail> {
 fn laws_hold() {
     flush_leaves_fewer();
     append_leaves_more();
+    more_leaves_more();
     all_firm_leaves_all();
     reset_leaves_nothing();
     missing_devices();
