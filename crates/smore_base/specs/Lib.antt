@@ -1,3 +1,4 @@
+pub mod BigEndian
 pub mod Geometry
 pub mod Name
 pub mod Objects
