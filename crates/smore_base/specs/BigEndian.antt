@@ -1,5 +1,5 @@
 -- Fields of records: numbers with the highest byte first, and where a field stands.
-use Rattle.std.specs.Prelude.{◌≡◌, ℕ, ◌^◌, ◌<◌, List, ◌++◌, length, take, drop, slice_index}
+use Rattle.std.specs.Prelude.{◌≡◌, ℕ, ◌+◌, ◌^◌, ◌<◌, List, [], ◌∷◌, ◌++◌, length, take, drop, slice_index}
 use Rattle.std.specs.Int.{Width, byte_len, to_be_bytes, from_be_bytes}
 
 -- the bytes of a number in this width, the highest first
@@ -35,3 +35,22 @@ pub record IsExact (w : Width) : Type 0 where
   -- what is read was written so
   pub so_written : (bytes : List ℕ) → AreBytes bytes → length bytes ≡ byte_len w → big_endian w (number_of w bytes) ≡ bytes
   pub within : (bytes : List ℕ) → AreBytes bytes → number_of w bytes < 256 ^ byte_len w
+
+-- A row of fields: numbers in their widths, one behind the other.
+abbrev pub Fields : Type 0
+Fields = List (Width × ℕ)
+
+-- the bytes of a row of fields
+abbrev pub spelled : Fields → List ℕ
+spelled [] = []
+spelled (f ∷ fs) = big_endian f.0 f.1 ++ spelled fs
+
+-- the row of fields of these widths whose bytes stand from there on
+abbrev pub fields_at : List Width → List ℕ → ℕ → Fields
+fields_at [] bytes at = []
+fields_at (w ∷ ws) bytes at = (w, number_at w bytes at) ∷ fields_at ws bytes (at + byte_len w)
+
+-- how many bytes fields of these widths have
+abbrev pub bytes_of : List Width → ℕ
+bytes_of [] = 0
+bytes_of (w ∷ ws) = byte_len w + bytes_of ws
