@@ -10,8 +10,8 @@ use Rattle.std.proofs.lemmas.List.Elements.{All-push}
 use Rattle.std.proofs.lemmas.List.Sorted.{IsNonDecreasingBy-push}
 use Rattle.std.proofs.lemmas.List.{append-nil, map-append, flat_map_more, take_all}
 use Rattle.smore_base.specs.declared.geometry.Geometry.{Geometry}
-use Rattle.zone_bay.specs.Outside.{Told}
-use Rattle.zone_bay.specs.Bay.{Shape, Contents, with_zone}
+use Rattle.smore_base.specs.Told.{Told}
+use Rattle.zone_bay.specs.Contents.{Shape, Contents, with_zone}
 use Rattle.smore_top.specs.Opening.{OpensWith}
 use Rattle.object_machine.specs.declared.op.Op.{Op}
 use Rattle.object_machine.specs.declared.reply.Reply.{Reply}

@@ -3,8 +3,8 @@ use Rattle.std.proofs.Common.{◌≡◌, ℕ, suc, ◌+◌, ◌-◌, ◌*◌, �
 use Rattle.std.proofs.lemmas.List.{take_all, take_min, drop_min, drop-drop, length-take, length-drop}
 use Rattle.std.proofs.lemmas.Slice.{take-put_mid}
 use borrow.Rule.Slice.PartMut.{put_mid}
-use Rattle.zone_bay.specs.Bay.{Contents, Reads}
-use Rattle.zone_bay.proofs.Tells.{IfSome-both}
+use Rattle.zone_bay.specs.Contents.{Contents, Reads}
+use Rattle.smore_base.proofs.Told.{IfSome-both}
 use Rattle.smore_top.specs.Blocks.{data_block, blocks_from, content_from, object_at}
 
 one_left : (count i : ℕ) → i < count → count - i ≡ suc (count - (i + 1))

@@ -2,15 +2,15 @@
 use Rattle.std.proofs.Common.{◌≡◌, ℕ, suc, ◌+◌, ◌≤◌, List, ◌∷◌, ◌++◌, length, drop, set, replicate, ap, ◌∙◌, arith}
 use Rattle.std.proofs.lemmas.List.{drop-replicate}
 use borrow.Rule.Slice.PartMut.{put_mid}
-use Rattle.zone_bay.specs.Bay.{Shape}
+use Rattle.std.specs.Prelude.{⊤}
+use Rattle.zone_bay.specs.Bay.{BayState}
+use Rattle.zone_bay.specs.Stretch.{GoesOn}
 
 -- ---- what the calls left
 
 -- calls that were all answered
-pub record AreAnswered {B : Type 0} (shape : B → Shape) (moment : B → ℕ) (faults : B → ℕ → ℕ) (old new : B) : Type 0 where
-  pub same_shape : shape new ≡ shape old
-  pub later : moment old ≤ moment new
-  pub counts : (d : ℕ) → faults new d ≡ faults old d
+abbrev pub AreAnswered : BayState → BayState → Type 0
+AreAnswered old new = GoesOn old new (λ _ _. ⊤) (λ _ _. ⊥)
 
 -- ---- the block of a label
 

@@ -4,7 +4,7 @@ use Rattle.std.specs.Prelude.{IfSome, IfNone}
 use Rattle.std.specs.Int.{w16, w32, to_be_bytes, from_be_bytes}
 use Rattle.std.proofs.lemmas.List.{take_at, drop_at, take-append-drop, take_rest, length-drop, length-take, length-replicate, length-append}
 use Rattle.std.proofs.lemmas.Nat.{from_be_bytes-to_be_bytes_2, from_be_bytes-to_be_bytes_4}
-use Rattle.zone_bay.specs.Bay.{Shape, Contents}
+use Rattle.zone_bay.specs.Contents.{Shape, Contents}
 use Rattle.smore_top.specs.declared.label.Label.{Label}
 use Rattle.smore_top.specs.Label.{IsLabel, IsLabelOf, BeginsWith, BeginsWithNone, HasNoLabel, fields_of, spelling_of, label_block, label_of}
 use Rattle.smore_top.proofs.LabelBytes.{spread_one, length-spelling_of}

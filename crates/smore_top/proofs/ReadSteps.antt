@@ -2,9 +2,9 @@
 use Rattle.std.proofs.Common.{◌≡◌, ℕ, ◌<◌, ◌≤◌, List, ◌++◌, length, take, Option, Some, None, Ok, Err, arith, sym, ap, subst, ◌∙◌, append_assoc, length-append, length-take}
 use Rattle.std.specs.Int.{w32, to_be_bytes, from_be_bytes}
 use Rattle.std.proofs.lemmas.List.{take_all}
+use Rattle.smore_base.specs.Told.{Told}
 use Rattle.zone_bay.specs.declared.failed.Failed.{Failed}
-use Rattle.zone_bay.specs.Outside.{Told}
-use Rattle.zone_bay.proofs.Tells.{Told-then}
+use Rattle.smore_base.proofs.Told.{Told-then}
 use Rattle.smore_top.specs.declared.request.Request.{Request}
 use Rattle.smore_top.specs.declared.request_frame.ReadFault.TheVariants.{Memory, Failed as SourceFailed, BadFrame}
 use Rattle.smore_top.specs.Frames.{IsSpelledBy, StartsNoFrame}

@@ -1,7 +1,7 @@
 -- What a run of a batch does.
 use Rattle.std.specs.Prelude.{◌≡◌, ◌⊎◌, ℕ, ◌+◌, ◌<◌, ◌≤◌, List, [], ◌∷◌, ◌++◌, length, take, Option, Some}
 use Rattle.smore_base.specs.declared.geometry.Geometry.{Geometry}
-use Rattle.zone_bay.specs.Bay.{Shape, Contents, with_zone}
+use Rattle.zone_bay.specs.Contents.{Shape, Contents, with_zone}
 use Rattle.object_machine.specs.declared.machine.Entry.{Entry}
 use Rattle.object_machine.specs.State.{IsLost}
 use Rattle.object_machine.specs.History.{IsLegalHistory}

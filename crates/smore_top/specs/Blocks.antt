@@ -1,5 +1,7 @@
 -- How an object's bytes lie in blocks.
-use Rattle.std.specs.Prelude.{ℕ, zero, suc, ◌+◌, ◌-◌, ◌*◌, ◌/◌, min, List, [], ◌∷◌, ◌++◌, length, take, drop, replicate}
+use Rattle.std.specs.Prelude.{◌≡◌, ℕ, zero, suc, ◌+◌, ◌-◌, ◌*◌, ◌/◌, min, List, [], ◌∷◌, ◌++◌, length, take, drop, replicate}
+use Rattle.zone_bay.specs.Contents.{appended}
+use Rattle.zone_bay.specs.Bay.{BayState, Becomes}
 
 -- how many blocks so many bytes take
 abbrev pub blocks_of : ℕ → ℕ
@@ -26,3 +28,7 @@ content_from (suc count) zone bytes = take (min 511 bytes) (drop 1 zone) ++ cont
 -- the object of so many bytes whose blocks begin at this block of a zone
 abbrev pub object_at : List ℕ → ℕ → ℕ → List ℕ
 object_at zone first bytes = content_from (blocks_of bytes) (drop (512 * first) zone) bytes
+
+-- a prefix of the bytes stands at the end of zone 2 of drive 0
+abbrev pub AppendsInPart : List ℕ → BayState → BayState → Type 0
+AppendsInPart bytes old new = (n : ℕ) × Becomes (appended 0 2 (take n bytes)) old new

@@ -1,7 +1,7 @@
 -- What formatting makes of the devices.
 use Rattle.std.specs.Prelude.{◌≡◌, ◌≢◌, ◌⊎◌, ℕ, ◌<◌, ◌≤◌, List, []}
 use Rattle.smore_base.specs.declared.geometry.Geometry.{Geometry}
-use Rattle.zone_bay.specs.Bay.{Shape, Contents}
+use Rattle.zone_bay.specs.Contents.{Shape, Contents}
 use Rattle.smore_top.specs.Label.{label_of, label_block}
 
 -- one zone holds these bytes now, and the others what they held

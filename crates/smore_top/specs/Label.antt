@@ -3,7 +3,7 @@ use Rattle.std.specs.Prelude.{◌≡◌, ℕ, ◌+◌, ◌^◌, ◌<◌, List, [
 use Rattle.std.specs.Int.{w16, w32, to_be_bytes}
 use Rattle.smore_base.specs.declared.geometry.Geometry.{Geometry}
 use Rattle.smore_base.specs.Geometry.{IsWithinLimits}
-use Rattle.zone_bay.specs.Bay.{Shape, Contents}
+use Rattle.zone_bay.specs.Contents.{Shape, Contents}
 use Rattle.smore_top.specs.declared.label.Label.{Label}
 
 -- each field has its width

@@ -3,7 +3,7 @@ use Rattle.std.specs.Prelude.{◌≡◌, ℕ, List, []}
 use Rattle.smore_base.specs.declared.geometry.Geometry.{Geometry}
 use Rattle.smore_base.specs.Geometry.{IsWithinLimits}
 use Rattle.zone_bay.specs.Outside.{Rose}
-use Rattle.zone_bay.specs.Bay.{Shape, Contents}
+use Rattle.zone_bay.specs.Contents.{Shape, Contents}
 use Rattle.smore_top.specs.Label.{IsOfBay, HasLabel}
 
 -- Drive 0 has a label of this bay with k 1 and p 1, and its zone 2 is empty.

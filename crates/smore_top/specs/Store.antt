@@ -3,7 +3,7 @@ use Rattle.std.specs.Prelude.{◌≡◌, ℕ, ◌-◌, ◌*◌, ◌/◌, ◌<◌
 use Rattle.std.specs.FinMap as map
 use Rattle.std.specs.FinSet as set
 use Rattle.std.specs.Ordering.{nat_cmp}
-use Rattle.zone_bay.specs.Bay.{Contents}
+use Rattle.zone_bay.specs.Contents.{Contents}
 use Rattle.smore_base.specs.Name.{IsName}
 use Rattle.object_machine.specs.declared.op.Op.{Op}
 use Rattle.object_machine.specs.declared.op.Op.TheVariants.{Put, Get}

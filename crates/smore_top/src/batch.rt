@@ -1,7 +1,8 @@
 ghost use Rattle.std.specs.Prelude.{◌≡◌, ◌⊎◌, ◌↔◌, ℕ, ◌≤◌, [], length, Bool, true, false, All, IsOk, IsErr, OnOk, OnErr, IsErrOf, Some, None, Option, MatchOption, IfSome};
 ghost use Rattle.std.specs.List.Sorted.{IsNonDecreasing};
-ghost use Rattle.zone_bay.specs.Outside.{HasCause, Told, Rose};
-ghost use Rattle.smore_top.specs.CoreFacts.{GoesOn};
+ghost use Rattle.smore_base.specs.Told.{Told};
+ghost use Rattle.zone_bay.specs.Outside.{HasCause, Rose};
+ghost use Rattle.smore_top.specs.CoreFacts.{Proceeds};
 ghost use Rattle.smore_top.specs.Answering.{Answers};
 ghost use Rattle.smore_top.specs.Store.{told_store};
 ghost use Rattle.smore_top.specs.Batch.{RunsWhereTold, RunsFrom, CompletesWhole, MarksReplies};
@@ -48,10 +49,10 @@ fn answer<B: Bay, K: Sink>(
     frame: &mut Vec<u8>,
     op: Op,
 ) -> Result<(), AnswerFault>
-    ensures answered { Told (told_store core.old.index.items core.old.used core.old.is_lost (B.contents core.old.bay))
-        (told_store core.new.index.items core.new.used core.new.is_lost (B.contents core.new.bay))
+    ensures answered { Told (told_store core.old.index.items core.old.used core.old.is_lost (B.state core.old.bay).contents)
+        (told_store core.new.index.items core.new.used core.new.is_lost (B.state core.new.bay).contents)
         (λ s t. Told (K.held sink.old) (K.held sink.new) (Answers core.old.geometry.blocks core.old.geometry.shard s op result t)) }
-    ensures goes_on { GoesOn B.shape B.moment B.faults B.contents core.old.is_lost core.new.is_lost core.old.bay core.new.bay }
+    ensures goes_on { Proceeds core.old.is_lost core.new.is_lost (B.state core.old.bay) (B.state core.new.bay) }
     ensures same { core.new.geometry ≡ core.old.geometry }
     ensures failed { IsErrOf result AnswerFault.Failed → Rose (K.faults sink.old) (K.faults sink.new) }
     ensures no_fault { (IsErrOf result AnswerFault.Failed → ⊥) → K.faults sink.new ≡ K.faults sink.old }
@@ -76,10 +77,10 @@ fn answer_all<S: Source, K: Sink, B: Bay>(
 ) -> Outcome
     requires fresh { (core.old.index.items ≡ []) × (core.old.used ≡ 0) × (core.old.is_lost ≡ false) }
     ensures runs { RunsWhereTold core.old.geometry.blocks core.old.geometry.shard result.status result.calls
-        (S.left source.old) (K.held sink.old) (B.contents core.old.bay)
-        (S.left source.new) (K.held sink.new) (B.contents core.new.bay)
-        (Rose (B.faults core.old.bay 0) (B.faults core.new.bay 0)) }
-    ensures goes_on { GoesOn B.shape B.moment B.faults B.contents core.old.is_lost core.new.is_lost core.old.bay core.new.bay }
+        (S.left source.old) (K.held sink.old) (B.state core.old.bay).contents
+        (S.left source.new) (K.held sink.new) (B.state core.new.bay).contents
+        (Rose ((B.state core.old.bay).faults 0) ((B.state core.new.bay).faults 0)) }
+    ensures goes_on { Proceeds core.old.is_lost core.new.is_lost (B.state core.old.bay) (B.state core.new.bay) }
     ensures source_failed { result.status ≡ 3 → Rose (S.faults source.old) (S.faults source.new) }
     ensures no_source_fault { (result.status ≡ 3 → ⊥) → S.faults source.new ≡ S.faults source.old }
     ensures sink_failed { result.status ≡ 4 → Rose (K.faults sink.old) (K.faults sink.new) }
@@ -87,7 +88,7 @@ fn answer_all<S: Source, K: Sink, B: Bay>(
     ensures known { (result.status ≤ 5) × (result.status ≡ 2 → ⊥) }
     ensures marks { MarksReplies result.status result.calls (length result.marks.items) }
     ensures rising { IsNonDecreasing result.marks.items }
-    ensures within { All (λ mark. (B.moment core.old.bay ≤ mark) × (mark ≤ B.moment core.new.bay)) result.marks.items }
+    ensures within { All (λ mark. ((B.state core.old.bay).moment ≤ mark) × (mark ≤ (B.state core.new.bay).moment)) result.marks.items }
     ensures place { result.at ≡ 0 }
 {
     let mut frame = Vec::new(alloc);
@@ -134,18 +135,18 @@ pub fn run_batch<S: Source, K: Sink, B: Bay>(
     bay: B,
 ) -> (Outcome, B)
     ensures words { result.0.status ≡ 2 ↔ (IsBatch words.now → ⊥) }
-    ensures bay_refused { result.0.status ≡ 6 → IfSome (B.contents bay)
-        (λ held. OpensOnlyAtFault (B.shape bay) held (B.faults bay 0) (B.faults result.1 0)) }
+    ensures bay_refused { result.0.status ≡ 6 → IfSome (B.state bay).contents
+        (λ held. OpensOnlyAtFault (B.state bay).shape held ((B.state bay).faults 0) ((B.state result.1).faults 0)) }
     ensures no_call { (result.0.status ≡ 2) ⊎ (result.0.status ≡ 6)
-        → (source.new ≡ source.old) × (sink.new ≡ sink.old) × (result.0.calls ≡ 0) × (B.contents result.1 ≡ B.contents bay) }
+        → (source.new ≡ source.old) × (sink.new ≡ sink.old) × (result.0.calls ≡ 0) × ((B.state result.1).contents ≡ (B.state bay).contents) }
     ensures no_drive_call { result.0.status ≡ 2 → result.1 ≡ bay }
     ensures runs { (result.0.status ≡ 2 → ⊥) → (result.0.status ≡ 6 → ⊥)
-        → RunsFrom (B.shape bay) result.0.status result.0.calls (S.left source.old) (K.held sink.old) (B.contents bay)
-        (S.left source.new) (K.held sink.new) (B.contents result.1)
-        (Rose (B.faults bay 0) (B.faults result.1 0)) }
-    ensures complete { CompletesWhole result.0.status (S.left source.old) (K.held sink.old) (B.contents bay)
+        → RunsFrom (B.state bay).shape result.0.status result.0.calls (S.left source.old) (K.held sink.old) (B.state bay).contents
+        (S.left source.new) (K.held sink.new) (B.state result.1).contents
+        (Rose ((B.state bay).faults 0) ((B.state result.1).faults 0)) }
+    ensures complete { CompletesWhole result.0.status (S.left source.old) (K.held sink.old) (B.state bay).contents
         (Rose (S.faults source.old) (S.faults source.new)) (Rose (K.faults sink.old) (K.faults sink.new)) }
-    ensures goes_on { GoesOn B.shape B.moment B.faults B.contents true true bay result.1 }
+    ensures goes_on { Proceeds true true (B.state bay) (B.state result.1) }
     ensures source_failed { result.0.status ≡ 3 → Rose (S.faults source.old) (S.faults source.new) }
     ensures no_source_fault { (result.0.status ≡ 3 → ⊥) → S.faults source.new ≡ S.faults source.old }
     ensures sink_failed { result.0.status ≡ 4 → Rose (K.faults sink.old) (K.faults sink.new) }
@@ -153,7 +154,7 @@ pub fn run_batch<S: Source, K: Sink, B: Bay>(
     ensures known { result.0.status ≤ 6 }
     ensures marks { MarksReplies result.0.status result.0.calls (length result.0.marks.items) }
     ensures rising { IsNonDecreasing result.0.marks.items }
-    ensures within { All (λ mark. (B.moment bay ≤ mark) × (mark ≤ B.moment result.1)) result.0.marks.items }
+    ensures within { All (λ mark. ((B.state bay).moment ≤ mark) × (mark ≤ (B.state result.1).moment)) result.0.marks.items }
     ensures place { result.0.at ≡ 0 }
 {
     if !is_batch(words) {

@@ -1,5 +1,5 @@
 ghost use Rattle.std.specs.Prelude.{◌≡◌, ◌<◌, ◌≤◌, ◌↔◌, length, take, replicate, IsTrue, MatchOption, IfSome, IfNone, IfOk};
-ghost use Rattle.zone_bay.specs.Bay.{AreCallsOn};
+ghost use Rattle.smore_top.specs.Calls.{CallsOn};
 ghost use Rattle.smore_top.specs.declared.label.Label.{Label as LabelSeen};
 ghost use Rattle.smore_top.specs.Label.{IsLabel, IsOfBay, IsLabelOf, BeginsWith, BeginsWithNone, HasLabel, HasNoLabel, label_block};
 
@@ -55,14 +55,14 @@ fn is_label_of(label: &Label, device: u8, devices: u8, zones: u16, blocks: u32) 
 
 /// The first block of the device, or `None` where it holds fewer bytes.
 fn first_block<B: Bay>(bay: &mut B, device: u8) -> Result<Option<[u8; BLOCK]>, Failed>
-    requires device_in { device < (B.shape bay.old).devices }
-    requires zone_in { 0 < (B.shape bay.old).zones }
-    ensures block { IfSome (B.contents bay.old) (λ held. IfOk result (λ block. MatchOption block
+    requires device_in { device < (B.state bay.old).shape.devices }
+    requires zone_in { 0 < (B.state bay.old).shape.zones }
+    ensures block { IfSome (B.state bay.old).contents (λ held. IfOk result (λ block. MatchOption block
         (length (held device 0) < 512)
         (λ bytes. bytes ≡ take 512 (held device 0)))) }
     ensures long { IfOk result (λ block. IfSome block (λ bytes. length bytes ≡ 512)) }
-    ensures same { B.contents bay.new ≡ B.contents bay.old }
-    ensures calls { AreCallsOn B.shape B.moment B.faults device bay.old bay.new result }
+    ensures same { (B.state bay.new).contents ≡ (B.state bay.old).contents }
+    ensures calls { CallsOn device (B.state bay.old) (B.state bay.new) result }
 {
     if bay.written(device, 0)? < BLOCK_BYTES {
         return Ok(None);
@@ -74,13 +74,13 @@ fn first_block<B: Bay>(bay: &mut B, device: u8) -> Result<Option<[u8; BLOCK]>, F
 
 /// The label with which the device begins, of whatever array.
 fn first_label<B: Bay>(bay: &mut B, device: u8) -> Result<Option<Label>, Failed>
-    requires device_in { device < (B.shape bay.old).devices }
-    requires zone_in { 0 < (B.shape bay.old).zones }
-    ensures found { IfSome (B.contents bay.old) (λ held. IfOk result (λ label. IfSome label (BeginsWith held device))) }
+    requires device_in { device < (B.state bay.old).shape.devices }
+    requires zone_in { 0 < (B.state bay.old).shape.zones }
+    ensures found { IfSome (B.state bay.old).contents (λ held. IfOk result (λ label. IfSome label (BeginsWith held device))) }
     ensures fits { IfOk result (λ label. IfSome label IsLabel) }
-    ensures none { IfSome (B.contents bay.old) (λ held. IfOk result (λ label. IfNone label (BeginsWithNone held device))) }
-    ensures same { B.contents bay.new ≡ B.contents bay.old }
-    ensures calls { AreCallsOn B.shape B.moment B.faults device bay.old bay.new result }
+    ensures none { IfSome (B.state bay.old).contents (λ held. IfOk result (λ label. IfNone label (BeginsWithNone held device))) }
+    ensures same { (B.state bay.new).contents ≡ (B.state bay.old).contents }
+    ensures calls { CallsOn device (B.state bay.old) (B.state bay.new) result }
 {
     match first_block(bay, device)? {
         None => Ok(None),
@@ -90,13 +90,13 @@ fn first_label<B: Bay>(bay: &mut B, device: u8) -> Result<Option<Label>, Failed>
 
 /// The label with which the device begins, where it is a label of this bay and this device.
 pub(crate) fn read_bay_label<B: Bay>(bay: &mut B, device: u8) -> Result<Option<Label>, Failed>
-    ensures ours { IfOk result (λ label. IfSome label (IsLabelOf (B.shape bay.old) device)) }
-    ensures found { IfSome (B.contents bay.old) (λ held. IfOk result
-        (λ label. IfSome label (λ l. HasLabel (B.shape bay.old) held device l.geometry l.array))) }
-    ensures none { IfSome (B.contents bay.old) (λ held. IfOk result
-        (λ label. IfNone label (HasNoLabel (B.shape bay.old) held device))) }
-    ensures same { B.contents bay.new ≡ B.contents bay.old }
-    ensures calls { AreCallsOn B.shape B.moment B.faults device bay.old bay.new result }
+    ensures ours { IfOk result (λ label. IfSome label (IsLabelOf (B.state bay.old).shape device)) }
+    ensures found { IfSome (B.state bay.old).contents (λ held. IfOk result
+        (λ label. IfSome label (λ l. HasLabel (B.state bay.old).shape held device l.geometry l.array))) }
+    ensures none { IfSome (B.state bay.old).contents (λ held. IfOk result
+        (λ label. IfNone label (HasNoLabel (B.state bay.old).shape held device))) }
+    ensures same { (B.state bay.new).contents ≡ (B.state bay.old).contents }
+    ensures calls { CallsOn device (B.state bay.old) (B.state bay.new) result }
 {
     let devices = bay.devices();
     let zones = bay.zones();

@@ -1,6 +1,9 @@
 //! An object as blocks in zone 2 of drive 0: `docs/FORMATS.md`, "Blocks".
 ghost use Rattle.std.specs.Prelude.{◌≡◌, ℕ, ◌+◌, ◌*◌, ◌<◌, ◌≤◌, ◌^◌, length, IfSome, IfOk, OnOk, OnErr};
-ghost use Rattle.zone_bay.specs.Bay.{AreCallsOn, Becomes, appended, BecomesInPart};
+ghost use Rattle.zone_bay.specs.Contents.{appended};
+ghost use Rattle.zone_bay.specs.Bay.{Becomes};
+ghost use Rattle.smore_top.specs.Calls.{CallsOn};
+ghost use Rattle.smore_top.specs.Blocks.{AppendsInPart};
 ghost use Rattle.smore_top.specs.Blocks.{blocks_of, data_blocks, object_at};
 
 use smore_base::{BLOCK_BYTES, CONTENT_BYTES};
@@ -36,13 +39,13 @@ pub(crate) fn data_blocks(alloc: Global, object: &[u8]) -> Result<Vec<u8>, Alloc
 
 /// Puts the bytes at the end of zone 2 of drive 0, and makes them firm.
 pub(crate) fn append_firm<B: Bay>(bay: &mut B, bytes: &[u8]) -> Result<(), Failed>
-    requires drive { 0 < (B.shape bay.old).devices }
-    requires zone { 2 < (B.shape bay.old).zones }
-    requires fits { IfSome (B.contents bay.old)
-        (λ held. length (held 0 2) + length bytes.now ≤ 512 * (B.shape bay.old).blocks) }
-    ensures ok { OnOk result (Becomes (appended 0 2 bytes.now) (B.contents bay.old) (B.contents bay.new)) }
-    ensures err { OnErr result (BecomesInPart 0 2 bytes.now (B.contents bay.old) (B.contents bay.new)) }
-    ensures calls { AreCallsOn B.shape B.moment B.faults 0 bay.old bay.new result }
+    requires drive { 0 < (B.state bay.old).shape.devices }
+    requires zone { 2 < (B.state bay.old).shape.zones }
+    requires fits { IfSome (B.state bay.old).contents
+        (λ held. length (held 0 2) + length bytes.now ≤ 512 * (B.state bay.old).shape.blocks) }
+    ensures ok { OnOk result (Becomes (appended 0 2 bytes.now) (B.state bay.old) (B.state bay.new)) }
+    ensures err { OnErr result (AppendsInPart bytes.now (B.state bay.old) (B.state bay.new)) }
+    ensures calls { CallsOn 0 (B.state bay.old) (B.state bay.new) result }
 {
     bay.append(0, 2, bytes)?;
     bay.flush(0)
@@ -50,16 +53,16 @@ pub(crate) fn append_firm<B: Bay>(bay: &mut B, bytes: &[u8]) -> Result<(), Faile
 
 /// Fills `out` with the object that begins at block `first` of zone 2 of drive 0.
 pub(crate) fn read_object<B: Bay>(bay: &mut B, first: u32, out: &mut [u8]) -> Result<(), Failed>
-    requires drive { 0 < (B.shape bay.old).devices }
-    requires zone { 2 < (B.shape bay.old).zones }
+    requires drive { 0 < (B.state bay.old).shape.devices }
+    requires zone { 2 < (B.state bay.old).shape.zones }
     requires few { 512 * (first + blocks_of (length out.old)) < 2 ^ 32 }
-    requires written { IfSome (B.contents bay.old)
+    requires written { IfSome (B.state bay.old).contents
         (λ held. 512 * (first + blocks_of (length out.old)) ≤ length (held 0 2)) }
-    ensures object { IfSome (B.contents bay.old)
+    ensures object { IfSome (B.state bay.old).contents
         (λ held. OnOk result (out.new ≡ object_at (held 0 2) first (length out.old))) }
     ensures length { length out.new ≡ length out.old }
-    ensures same { B.contents bay.new ≡ B.contents bay.old }
-    ensures calls { AreCallsOn B.shape B.moment B.faults 0 bay.old bay.new result }
+    ensures same { (B.state bay.new).contents ≡ (B.state bay.old).contents }
+    ensures calls { CallsOn 0 (B.state bay.old) (B.state bay.new) result }
 {
     let count = out.len().div_ceil(CONTENT);
     for i in 0..count {

@@ -1,7 +1,8 @@
 ghost use Rattle.std.specs.Prelude.{◌≡◌, ◌≢◌, ℕ, ◌*◌, ◌<◌, ◌≤◌, [], length, IfSome, IfErr, OnOk};
 ghost use Rattle.smore_base.specs.Geometry.{IsWithinLimits};
-ghost use Rattle.zone_bay.specs.Outside.{Rose, Told};
-ghost use Rattle.zone_bay.specs.Bay.{AreCallsOn};
+ghost use Rattle.smore_base.specs.Told.{Told};
+ghost use Rattle.zone_bay.specs.Outside.{Rose};
+ghost use Rattle.smore_top.specs.Calls.{CallsOn};
 ghost use Rattle.smore_top.specs.Label.{IsOfBay, label_of, label_block};
 ghost use Rattle.smore_top.specs.Format.{ZoneHolds, AreEmptied, DeviceHolds, IsFormatted};
 
@@ -30,10 +31,10 @@ fn block_of(label: &Label) -> [u8; BLOCK]
 }
 
 fn empty_zone<B: Bay>(bay: &mut B, device: u8, zone: u16) -> Result<(), Failed>
-    requires device_in { device < (B.shape bay.old).devices }
-    requires zone_in { zone < (B.shape bay.old).zones }
-    ensures ok { OnOk result (Told (B.contents bay.old) (B.contents bay.new) (ZoneHolds device zone [])) }
-    ensures calls { AreCallsOn B.shape B.moment B.faults device bay.old bay.new result }
+    requires device_in { device < (B.state bay.old).shape.devices }
+    requires zone_in { zone < (B.state bay.old).shape.zones }
+    ensures ok { OnOk result (Told (B.state bay.old).contents (B.state bay.new).contents (ZoneHolds device zone [])) }
+    ensures calls { CallsOn device (B.state bay.old) (B.state bay.new) result }
 {
     if bay.written(device, zone)? == 0 {
         return Ok(());
@@ -43,9 +44,9 @@ fn empty_zone<B: Bay>(bay: &mut B, device: u8, zone: u16) -> Result<(), Failed>
 }
 
 fn empty_device<B: Bay>(bay: &mut B, device: u8) -> Result<(), Failed>
-    requires { device < (B.shape bay.old).devices }
-    ensures ok { OnOk result (Told (B.contents bay.old) (B.contents bay.new) (AreEmptied device (B.shape bay.old).zones)) }
-    ensures calls { AreCallsOn B.shape B.moment B.faults device bay.old bay.new result }
+    requires { device < (B.state bay.old).shape.devices }
+    ensures ok { OnOk result (Told (B.state bay.old).contents (B.state bay.new).contents (AreEmptied device (B.state bay.old).shape.zones)) }
+    ensures calls { CallsOn device (B.state bay.old) (B.state bay.new) result }
 {
     for zone in 0..bay.zones() {
         empty_zone(bay, device, zone)?;
@@ -55,12 +56,12 @@ fn empty_device<B: Bay>(bay: &mut B, device: u8) -> Result<(), Failed>
 
 /// Puts a block into the empty first zone, and makes it firm.
 fn begin_device<B: Bay>(bay: &mut B, device: u8, block: &[u8]) -> Result<(), Failed>
-    requires device_in { device < (B.shape bay.old).devices }
-    requires zone_in { 0 < (B.shape bay.old).zones }
-    requires fits { length block.now ≤ 512 * (B.shape bay.old).blocks }
-    requires empty { IfSome (B.contents bay.old) (λ held. held device 0 ≡ []) }
-    ensures ok { OnOk result (Told (B.contents bay.old) (B.contents bay.new) (ZoneHolds device 0 block.now)) }
-    ensures calls { AreCallsOn B.shape B.moment B.faults device bay.old bay.new result }
+    requires device_in { device < (B.state bay.old).shape.devices }
+    requires zone_in { 0 < (B.state bay.old).shape.zones }
+    requires fits { length block.now ≤ 512 * (B.state bay.old).shape.blocks }
+    requires empty { IfSome (B.state bay.old).contents (λ held. held device 0 ≡ []) }
+    ensures ok { OnOk result (Told (B.state bay.old).contents (B.state bay.new).contents (ZoneHolds device 0 block.now)) }
+    ensures calls { CallsOn device (B.state bay.old) (B.state bay.new) result }
 {
     bay.append(device, 0, block)?;
     bay.flush(device)?;
@@ -68,11 +69,11 @@ fn begin_device<B: Bay>(bay: &mut B, device: u8, block: &[u8]) -> Result<(), Fai
 }
 
 fn format_device<B: Bay>(bay: &mut B, device: u8, block: &[u8]) -> Result<(), Failed>
-    requires device_in { device < (B.shape bay.old).devices }
-    requires zone_in { 0 < (B.shape bay.old).zones }
-    requires fits { length block.now ≤ 512 * (B.shape bay.old).blocks }
-    ensures ok { OnOk result (Told (B.contents bay.old) (B.contents bay.new) (DeviceHolds device (B.shape bay.old).zones block.now)) }
-    ensures calls { AreCallsOn B.shape B.moment B.faults device bay.old bay.new result }
+    requires device_in { device < (B.state bay.old).shape.devices }
+    requires zone_in { 0 < (B.state bay.old).shape.zones }
+    requires fits { length block.now ≤ 512 * (B.state bay.old).shape.blocks }
+    ensures ok { OnOk result (Told (B.state bay.old).contents (B.state bay.new).contents (DeviceHolds device (B.state bay.old).shape.zones block.now)) }
+    ensures calls { CallsOn device (B.state bay.old) (B.state bay.new) result }
 {
     empty_device(bay, device)?;
     begin_device(bay, device, block)?;
@@ -83,13 +84,13 @@ impl<B: Bay> Core<B> {
     /// Makes an array of this geometry: each zone that is written is reset, and each device gets its label.
     pub fn format(bay: &mut B, geometry: &Geometry, array: [u8; 16]) -> Result<(), FormatFailed>
         requires within { IsWithinLimits geometry.now }
-        requires shaped { IsOfBay (B.shape bay.old) geometry.now }
-        ensures ok { OnOk result (Told (B.contents bay.old) (B.contents bay.new) (λ _ held. IsFormatted (B.shape bay.old) geometry.now array held)) }
-        ensures counts { OnOk result ((d : ℕ) → B.faults bay.new d ≡ B.faults bay.old d) }
-        ensures failed { IfErr result (λ failed. (failed.device < (B.shape bay.old).devices) × Rose (B.faults bay.old failed.device) (B.faults bay.new failed.device)) }
-        ensures others { IfErr result (λ failed. (d : ℕ) → d ≢ failed.device → B.faults bay.new d ≡ B.faults bay.old d) }
-        ensures shape { B.shape bay.new ≡ B.shape bay.old }
-        ensures later { B.moment bay.old ≤ B.moment bay.new }
+        requires shaped { IsOfBay (B.state bay.old).shape geometry.now }
+        ensures ok { OnOk result (Told (B.state bay.old).contents (B.state bay.new).contents (λ _ held. IsFormatted (B.state bay.old).shape geometry.now array held)) }
+        ensures counts { OnOk result ((d : ℕ) → (B.state bay.new).faults d ≡ (B.state bay.old).faults d) }
+        ensures failed { IfErr result (λ failed. (failed.device < (B.state bay.old).shape.devices) × Rose ((B.state bay.old).faults failed.device) ((B.state bay.new).faults failed.device)) }
+        ensures others { IfErr result (λ failed. (d : ℕ) → d ≢ failed.device → (B.state bay.new).faults d ≡ (B.state bay.old).faults d) }
+        ensures shape { (B.state bay.new).shape ≡ (B.state bay.old).shape }
+        ensures later { (B.state bay.old).moment ≤ (B.state bay.new).moment }
     {
         for device in 0..bay.devices() {
             let block = block_of(&Label {

@@ -1,5 +1,5 @@
 ghost use Rattle.std.specs.Prelude.{◌≡◌, IfSome, IfNone, IfOk};
-ghost use Rattle.zone_bay.specs.Bay.{AreCallsOn};
+ghost use Rattle.smore_top.specs.Calls.{CallsOn};
 ghost use Rattle.smore_top.specs.Opening.{IsOpenable, OpensWith, OpensWithNone};
 
 use crate::bay_label::read_bay_label;
@@ -15,13 +15,13 @@ pub enum OpenRefusal {
 
 /// The geometry with which the bay can be opened.
 pub(crate) fn openable<B: Bay>(bay: &mut B) -> Result<Option<Geometry>, Failed>
-    ensures ours { IfOk result (λ found. IfSome found (IsOpenable (B.shape bay.old))) }
-    ensures found { IfSome (B.contents bay.old) (λ held. IfOk result
-        (λ found. IfSome found (λ geometry. OpensWith (B.shape bay.old) geometry held))) }
-    ensures none { IfSome (B.contents bay.old) (λ held. IfOk result
-        (λ found. IfNone found (OpensWithNone (B.shape bay.old) held))) }
-    ensures same { B.contents bay.new ≡ B.contents bay.old }
-    ensures calls { AreCallsOn B.shape B.moment B.faults 0 bay.old bay.new result }
+    ensures ours { IfOk result (λ found. IfSome found (IsOpenable (B.state bay.old).shape)) }
+    ensures found { IfSome (B.state bay.old).contents (λ held. IfOk result
+        (λ found. IfSome found (λ geometry. OpensWith (B.state bay.old).shape geometry held))) }
+    ensures none { IfSome (B.state bay.old).contents (λ held. IfOk result
+        (λ found. IfNone found (OpensWithNone (B.state bay.old).shape held))) }
+    ensures same { (B.state bay.new).contents ≡ (B.state bay.old).contents }
+    ensures calls { CallsOn 0 (B.state bay.old) (B.state bay.new) result }
 {
     let Some(label) = read_bay_label(bay, 0)? else {
         return Ok(None);

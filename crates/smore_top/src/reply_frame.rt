@@ -1,6 +1,7 @@
 //! Replies as frames: `docs/FORMATS.md`, "Frames".
 ghost use Rattle.std.specs.Prelude.{◌≡◌, ℕ, ◌+◌, ◌<◌, ◌≤◌, ◌^◌, [], ◌∷◌, ◌++◌, length, OnOk, OnErr};
-ghost use Rattle.zone_bay.specs.Outside.{HasCause, Told};
+ghost use Rattle.smore_base.specs.Told.{Told};
+ghost use Rattle.zone_bay.specs.Outside.{HasCause};
 ghost use Rattle.smore_top.specs.Frames.{frame_head, reply_body, reply_frame, refusal_fields};
 ghost use Rattle.smore_top.specs.Writing.{PutsAll, PutsPart};
 

@@ -1,7 +1,8 @@
 //! Requests as frames: `docs/FORMATS.md`, "Frames".
 ghost use Rattle.std.specs.Prelude.{◌≡◌, ℕ, ◌<◌, ◌≤◌, length, IfOk, IfSome, IsErrOf, option_and_then};
 ghost use Rattle.std.specs.Option.{option_map};
-ghost use Rattle.zone_bay.specs.Outside.{HasCause, Told, Rose};
+ghost use Rattle.smore_base.specs.Told.{Told};
+ghost use Rattle.zone_bay.specs.Outside.{HasCause, Rose};
 ghost use Rattle.std.specs.Int.{w32, to_be_bytes, from_be_bytes};
 ghost use Rattle.smore_top.specs.Frames.{IsSpelledBy};
 ghost use Rattle.smore_top.specs.Reading.{name_at, put_of, get_of, request_in, Fills, ReadsRequest};

@@ -1,5 +1,6 @@
 ghost use Rattle.std.specs.Prelude.{◌≡◌, ℕ, ◌<◌, ◌≤◌, List, [], length, Option, IfSome, IfOk, OnErr};
-ghost use Rattle.zone_bay.specs.Outside.{HasCause, Told};
+ghost use Rattle.smore_base.specs.Told.{Told};
+ghost use Rattle.zone_bay.specs.Outside.{HasCause};
 ghost use Rattle.smore_top.specs.Streams.{Takes};
 
 use zone_bay::Failed;

@@ -1,9 +1,9 @@
 ghost use Rattle.std.specs.Prelude.{◌≡◌, ℕ, ◌-◌, ◌<◌, ◌≤◌, ◌^◌, List, [], length, Bool, true, false, All, IfOk, IfErr, IfSome, MatchResult};
 ghost use Rattle.std.specs.Option.{ForSome};
 ghost use Rattle.smore_base.specs.Geometry.{IsWithinLimits};
-ghost use Rattle.zone_bay.specs.Outside.{Told};
+ghost use Rattle.smore_base.specs.Told.{Told};
 ghost use Rattle.smore_top.specs.Frames.{reply_body, max_body};
-ghost use Rattle.smore_top.specs.CoreFacts.{GoesOn, HoldsUsed, Works};
+ghost use Rattle.smore_top.specs.CoreFacts.{Proceeds, HoldsUsed, Works};
 ghost use Rattle.smore_top.specs.Label.{IsOfBay};
 ghost use Rattle.smore_top.specs.Opening.{OpensWith, OpensOnlyAtFault};
 ghost use Rattle.smore_top.specs.Index.{IsKept, HasEntry};
@@ -27,9 +27,9 @@ pub struct Core<B: Bay> {
     used: u32,
     is_lost: bool,
     ghost limits: { IsWithinLimits geometry },
-    ghost of_bay: { IsOfBay (B.shape bay) geometry },
+    ghost of_bay: { IsOfBay (B.state bay).shape geometry },
     ghost room: { used ≤ geometry.blocks },
-    ghost zone: { ForSome (B.contents bay) (λ held. HoldsUsed used is_lost (held 0 2)) },
+    ghost zone: { ForSome (B.state bay).contents (λ held. HoldsUsed used is_lost (held 0 2)) },
     ghost kept: { All (IsKept used geometry.shard) index.items },
 }
 
@@ -48,12 +48,12 @@ impl<B: Bay> Core<B> {
     /// Opens a bay: drive 0 has a label of this bay with k 1 and p 1, and nothing in its zone 2. Nothing is written.
     pub fn open(alloc: Global, mut bay: B) -> Result<Core<B>, (OpenRefusal, B)>
         ensures ok { IfOk result (λ core. (core.index.items ≡ []) × (core.used ≡ 0) × (core.is_lost ≡ false)) }
-        ensures found { IfSome (B.contents bay) (λ held. IfOk result (λ core. OpensWith (B.shape bay) core.geometry held)) }
-        ensures refused { IfSome (B.contents bay) (λ held. IfErr result (λ refusal. OpensOnlyAtFault (B.shape bay) held (B.faults bay 0) (B.faults refusal.1 0))) }
-        ensures same { MatchResult result (λ core. B.contents core.bay ≡ B.contents bay) (λ refusal. B.contents refusal.1 ≡ B.contents bay) }
+        ensures found { IfSome (B.state bay).contents (λ held. IfOk result (λ core. OpensWith (B.state bay).shape core.geometry held)) }
+        ensures refused { IfSome (B.state bay).contents (λ held. IfErr result (λ refusal. OpensOnlyAtFault (B.state bay).shape held ((B.state bay).faults 0) ((B.state refusal.1).faults 0))) }
+        ensures same { MatchResult result (λ core. (B.state core.bay).contents ≡ (B.state bay).contents) (λ refusal. (B.state refusal.1).contents ≡ (B.state bay).contents) }
         ensures goes_on { MatchResult result
-            (λ core. GoesOn B.shape B.moment B.faults B.contents false false bay core.bay)
-            (λ refusal. GoesOn B.shape B.moment B.faults B.contents true true bay refusal.1) }
+            (λ core. Proceeds false false (B.state bay) (B.state core.bay))
+            (λ refusal. Proceeds true true (B.state bay) (B.state refusal.1)) }
     {
         match openable(&mut bay) {
             Ok(Some(geometry)) => Ok(Core {
@@ -72,9 +72,9 @@ impl<B: Bay> Core<B> {
     /// Answers a call.
     pub fn step(&mut self, op: Op) -> Reply
         ensures cause { Cause (HasEntry self.old.index.items) (self.old.geometry.blocks - self.old.used) self.old.geometry.shard (self.new.is_lost ≡ true) op result }
-        ensures works { Works B.shape B.moment B.faults B.contents self.old.is_lost self.new.is_lost self.old.bay self.new.bay result }
-        ensures move_ { Told (told_store self.old.index.items self.old.used self.old.is_lost (B.contents self.old.bay))
-            (told_store self.new.index.items self.new.used self.new.is_lost (B.contents self.new.bay))
+        ensures works { Works B.state self.old.is_lost self.new.is_lost self.old.bay self.new.bay result }
+        ensures move_ { Told (told_store self.old.index.items self.old.used self.old.is_lost (B.state self.old.bay).contents)
+            (told_store self.new.index.items self.new.used self.new.is_lost (B.state self.new.bay).contents)
             (λ s t. Move self.old.geometry.blocks self.old.geometry.shard s op result t) }
         ensures same { self.new.geometry ≡ self.old.geometry }
         ensures spelled { length (reply_body result) ≤ max_body }
@@ -87,9 +87,9 @@ impl<B: Bay> Core<B> {
 
     fn put(&mut self, name: &Bytes, object: &Bytes) -> Reply
         ensures cause { Cause (HasEntry self.old.index.items) (self.old.geometry.blocks - self.old.used) self.old.geometry.shard (self.new.is_lost ≡ true) (Op.Put name.now object.now) result }
-        ensures works { Works B.shape B.moment B.faults B.contents self.old.is_lost self.new.is_lost self.old.bay self.new.bay result }
-        ensures move_ { Told (told_store self.old.index.items self.old.used self.old.is_lost (B.contents self.old.bay))
-            (told_store self.new.index.items self.new.used self.new.is_lost (B.contents self.new.bay))
+        ensures works { Works B.state self.old.is_lost self.new.is_lost self.old.bay self.new.bay result }
+        ensures move_ { Told (told_store self.old.index.items self.old.used self.old.is_lost (B.state self.old.bay).contents)
+            (told_store self.new.index.items self.new.used self.new.is_lost (B.state self.new.bay).contents)
             (λ s t. Move self.old.geometry.blocks self.old.geometry.shard s (Op.Put name.now object.now) result t) }
         ensures same { self.new.geometry ≡ self.old.geometry }
         ensures spelled { length (reply_body result) ≤ max_body }
@@ -138,9 +138,9 @@ impl<B: Bay> Core<B> {
 
     fn get(&mut self, name: &Bytes) -> Reply
         ensures cause { Cause (HasEntry self.old.index.items) (self.old.geometry.blocks - self.old.used) self.old.geometry.shard (self.new.is_lost ≡ true) (Op.Get name.now) result }
-        ensures works { Works B.shape B.moment B.faults B.contents self.old.is_lost self.new.is_lost self.old.bay self.new.bay result }
-        ensures move_ { Told (told_store self.old.index.items self.old.used self.old.is_lost (B.contents self.old.bay))
-            (told_store self.new.index.items self.new.used self.new.is_lost (B.contents self.new.bay))
+        ensures works { Works B.state self.old.is_lost self.new.is_lost self.old.bay self.new.bay result }
+        ensures move_ { Told (told_store self.old.index.items self.old.used self.old.is_lost (B.state self.old.bay).contents)
+            (told_store self.new.index.items self.new.used self.new.is_lost (B.state self.new.bay).contents)
             (λ s t. Move self.old.geometry.blocks self.old.geometry.shard s (Op.Get name.now) result t) }
         ensures same { self.new.geometry ≡ self.old.geometry }
         ensures spelled { length (reply_body result) ≤ max_body }
@@ -170,7 +170,7 @@ impl<B: Bay> Core<B> {
 
     /// The bay's moment.
     pub fn moment(&self) -> u64
-        ensures { result ≡ B.moment self.now.bay }
+        ensures { result ≡ (B.state self.now.bay).moment }
     {
         self.bay.moment()
     }

@@ -3,4 +3,4 @@ use Rattle.smore_top.proofs.bay_label.first_label.Goals as goal
 
 pub returns-in-None-clause-none : goal.returns-in-None-clause-none
 returns-in-None-clause-none g c =
-    BeginsWithNone-short (g.B.Bay.contents c.args.bay.now) c.args.device (rw c.in-None.is at c.in_ok-first_block.ensures.block)
+    BeginsWithNone-short (g.B.Bay.state c.args.bay.now).contents c.args.device (rw c.in-None.is at c.in_ok-first_block.ensures.block)

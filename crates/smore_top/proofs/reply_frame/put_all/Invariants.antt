@@ -1,6 +1,7 @@
 use Rattle.std.proofs.Common.{◌≡◌, List, ℕ, ◌++◌, length, Ok}
+use Rattle.smore_base.specs.Told.{Told}
 use Rattle.zone_bay.specs.declared.failed.Failed.{Failed}
-use Rattle.zone_bay.specs.Outside.{HasCause, Told}
+use Rattle.zone_bay.specs.Outside.{HasCause}
 use Rattle.smore_top.proofs.reply_frame.put_all.Given as goal
 
 abbrev pub invariant-loop-rest : goal.invariant-loop-rest

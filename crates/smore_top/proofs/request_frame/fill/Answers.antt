@@ -1,7 +1,8 @@
 use Rattle.std.proofs.Common.{◌-◌, length, arith}
+use Rattle.smore_base.specs.Told.{Told}
 use Rattle.zone_bay.specs.declared.failed.Failed.{Failed}
-use Rattle.zone_bay.proofs.Calls.{cause_later}
-use Rattle.zone_bay.proofs.Tells.{Told-then}
+use Rattle.zone_bay.proofs.Causes.{cause_later}
+use Rattle.smore_base.proofs.Told.{Told-then}
 use Rattle.smore_top.proofs.BlockSteps.{length-put_mid}
 use Rattle.smore_top.proofs.FillSteps.{taken_further}
 use Rattle.smore_top.proofs.request_frame.fill.Goals as goal

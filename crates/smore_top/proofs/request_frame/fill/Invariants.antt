@@ -1,6 +1,7 @@
 use Rattle.std.proofs.Common.{◌≡◌, ℕ, ◌-◌, ◌≤◌, ◌++◌, length, take, Ok}
+use Rattle.smore_base.specs.Told.{Told}
 use Rattle.zone_bay.specs.declared.failed.Failed.{Failed}
-use Rattle.zone_bay.specs.Outside.{HasCause, Told}
+use Rattle.zone_bay.specs.Outside.{HasCause}
 use Rattle.smore_top.proofs.request_frame.fill.Given as goal
 
 abbrev pub invariant-loop-filled : goal.invariant-loop-filled

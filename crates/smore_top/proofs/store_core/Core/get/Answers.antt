@@ -20,10 +20,10 @@ fits : (g : _) (c : In-Some g) → IsKept c.args.self.now.used c.args.self.now.g
 fits g c = found_kept (IsKept c.args.self.now.used c.args.self.now.geometry.shard) c.args.self.now.index.items c.args.name.now c.args.self.now.kept c.in-Some.entry.now (found g c)
 
 pub returns-in-Err-clause-works : goal.returns-in-Err-clause-works
-returns-in-Err-clause-works g c = works_none _ _ _ _ _ _ _
+returns-in-Err-clause-works g c = works_none _ _ _ _
 
 pub returns-in_default-newest-clause-works : goal.returns-in_default-newest-clause-works
-returns-in_default-newest-clause-works g c = works_none _ _ _ _ _ _ _
+returns-in_default-newest-clause-works g c = works_none _ _ _ _
 
 pub returns-in_default-newest-clause-move_ : goal.returns-in_default-newest-clause-move_
 returns-in_default-newest-clause-move_ g c =
@@ -31,13 +31,13 @@ returns-in_default-newest-clause-move_ g c =
     told_same _ _ _ _ _ refl (λ held is. not_found _ _ _ _ _ _ (c.args.self.now.zone held is) c.args.self.now.kept _ (subst IsName c.as_slice.ensures c.in_default.ensures.name.1) none)
 
 pub returns-then-self-clause-works : goal.returns-then-self-clause-works
-returns-then-self-clause-works g c = works_none _ _ _ _ _ _ _
+returns-then-self-clause-works g c = works_none _ _ _ _
 
 pub returns-then-self-clause-move_ : goal.returns-then-self-clause-move_
 returns-then-self-clause-move_ g c = told_same _ _ _ _ _ refl (λ held is. get_still_lost _ _ _ _ _ _ (c.args.self.now.zone held is) c.args.self.now.kept _ c.if-self.true (has g (goal.at.returns-then-self-clause-move_ g c).In-Some))
 
 pub returns-in_default-vec-clause-works : goal.returns-in_default-vec-clause-works
-returns-in_default-vec-clause-works g c = works_none _ _ _ _ _ _ _
+returns-in_default-vec-clause-works g c = works_none _ _ _ _
 
 pub returns-in_default-vec-clause-move_ : goal.returns-in_default-vec-clause-move_
 returns-in_default-vec-clause-move_ g c = rw c.refused-in_default-vec.ensures (told_same _ _ _ _ _ refl (λ held is. get_memory _ _ _ _ _ _ (c.args.self.now.zone held is) c.args.self.now.kept _ (has g (goal.at.returns-in_default-vec-clause-move_ g c).In-Some) c.if-self.false))
@@ -50,16 +50,16 @@ read_object-requires-clause-few g c =
 pub read_object-requires-clause-written : goal.read_object-requires-clause-written
 read_object-requires-clause-written g c =
     let kept = fits g (goal.at.read_object-requires-clause-written g c).In-Some in
-    if_some (g.B.Bay.contents c.args.self.now.bay) (λ held. 512 * (c.in-Some.entry.now.first + blocks_of (length c.deref_mut.result.now)) ≤ length (held 0 2)) (λ held is. omega (arith, kept.0, (c.args.self.now.zone held is).at_least, c.in-Ok.ensures.len, c.deref_mut.ensures.len))
+    if_some (g.B.Bay.state c.args.self.now.bay).contents (λ held. 512 * (c.in-Some.entry.now.first + blocks_of (length c.deref_mut.result.now)) ≤ length (held 0 2)) (λ held is. omega (arith, kept.0, (c.args.self.now.zone held is).at_least, c.in-Ok.ensures.len, c.deref_mut.ensures.len))
 
 pub returns-in-Err-read_object-clause-works : goal.returns-in-Err-read_object-clause-works
-returns-in-Err-read_object-clause-works g c = works_err _ _ _ _ _ _ _ _ _ c.in-Err-read_object.ensures.calls c.if-self.false (λ h. h) (zone2_equal _ _ c.in-Err-read_object.ensures.same)
+returns-in-Err-read_object-clause-works g c = works_err _ _ _ _ _ _ c.in-Err-read_object.ensures.calls c.if-self.false (λ h. h) (zone2_equal _ _ c.in-Err-read_object.ensures.same)
 
 pub returns-in-Err-read_object-clause-move_ : goal.returns-in-Err-read_object-clause-move_
 returns-in-Err-read_object-clause-move_ g c = told_same _ _ _ _ _ c.in-Err-read_object.ensures.same (λ held is. get_lost _ _ _ _ (held 0 2) _ (c.args.self.now.zone held is) c.args.self.now.kept _ (held 0 2) (has g (goal.at.returns-in-Err-read_object-clause-move_ g c).In-Some) refl)
 
 pub returns-in-Ok-read_object-clause-works : goal.returns-in-Ok-read_object-clause-works
-returns-in-Ok-read_object-clause-works g c = works_ok _ _ _ _ _ _ _ _ _ c.in-Ok-read_object.ensures.calls c.if-self.false (λ h. h) (zone2_equal _ _ c.in-Ok-read_object.ensures.same)
+returns-in-Ok-read_object-clause-works g c = works_ok _ _ _ _ _ _ c.in-Ok-read_object.ensures.calls c.if-self.false (λ h. h) (zone2_equal _ _ c.in-Ok-read_object.ensures.same)
 
 pub returns-in-Ok-read_object-clause-move_ : goal.returns-in-Ok-read_object-clause-move_
 returns-in-Ok-read_object-clause-move_ g c =
