@@ -2,10 +2,15 @@
 //! histories of calls are legal.
 #![tactic(auto)]
 
+mod laws;
 mod machine;
 mod op;
 mod reply;
 
+pub use laws::{
+    answers_decide, get_answers, histories, histories_follow, nothing_changes, own_refusals,
+    put_is_kept,
+};
 pub use machine::{Entry, Machine};
 pub use op::Op;
 pub use reply::{Refusal, Reply};

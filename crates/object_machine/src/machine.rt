@@ -1,6 +1,6 @@
 ghost use Rattle.std.specs.Prelude.{ℕ, Option};
+ghost use Rattle.smore_base.specs.Told.{Told};
 ghost use Rattle.object_machine.specs.State.{State, Step};
-ghost use Rattle.object_machine.specs.History.{ToldSteps};
 
 use crate::{Op, Reply};
 
@@ -28,5 +28,5 @@ pub trait Machine {
         ensures { moves self.old op result self.new };
 
     /// Each move is a step of the store machine.
-    ghost is_step: { (old new : Self) (op : Op) (reply : Reply) → moves old op reply new → ToldSteps (state old) op reply (state new) };
+    ghost is_step: { (old new : Self) (op : Op) (reply : Reply) → moves old op reply new → Told (state old) (state new) (λ s t. Step s op reply t) };
 }

@@ -22,4 +22,7 @@ pub enum Refusal {
     Full { need: u32, room: u32 },
     /// So many fragments of the set are missing that its records can't be read or written.
     TooFewFragments { set: u64, missing: u8 },
+    /// The object is broken: this part of the upload is the first that isn't there, or of its parts, as many as this
+    /// number, the lengths don't add up.
+    Damaged { upload: u64, part: u32 },
 }
