@@ -33,6 +33,10 @@ put_keeps_others old new name object other step differs =
     ∙ map.get-insert nat_list_cmp_total old.objects name (Whole object) other
     ∙ ap (λ b. cond b (Some (Whole object)) (map.get old.objects other)) (apart other name differs)
 
+-- A state that stays as it is.
+pub loses_none : (state : State) → OnlyLoses state state
+loses_none state = record { rest = record { objects = refl }; stay_lost = λ device lost. lost }
+
 -- states that came from equal ones, where nothing else became of them
 still_equal : (old old' new new' : State) → EqualButLost old old' → OnlyLoses old new → OnlyLoses old' new' → EqualButLost new new'
 still_equal old old' new new' equal one other = record { objects = other.rest.objects ∙ equal.objects ∙ sym one.rest.objects }

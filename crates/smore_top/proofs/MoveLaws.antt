@@ -8,9 +8,11 @@ use Rattle.std.specs.FinMap as map
 use Rattle.std.specs.FinSet as set
 use Rattle.std.proofs.lemmas.List.{take_all}
 use Rattle.smore_base.specs.Name.{IsName}
+use Rattle.smore_base.specs.Objects.{Whole}
 use Rattle.object_machine.specs.declared.op.Op.TheVariants.{Put, Get}
 use Rattle.object_machine.specs.declared.reply.Reply.TheVariants.{Done, Object, NotFound, Refused}
 use Rattle.object_machine.specs.declared.reply.Refusal.TheVariants.{Memory, TooFewFragments}
+use Rattle.object_machine.proofs.StateLaws.{loses_none}
 use Rattle.smore_top.specs.declared.stored.Stored.{Stored}
 use Rattle.smore_top.specs.Blocks.{blocks_of, data_blocks, object_at}
 use Rattle.smore_top.specs.Index.{newest_of, HasEntry, IsKept, objects_of}
@@ -70,10 +72,7 @@ module _ (blocks shard used : ℕ) (index : List Stored) (zone : List ℕ) (lost
   pub not_found : (name : List ℕ) → IsName name → newest_of index name ≡ None → Move blocks shard (store_over index lost (take (512 * used) zone)) (Get name) NotFound (store_over index lost (take (512 * used) zone))
   not_found name is none = record {
     cause = (is, λ has. not_some _ none (entry_from_object (take (512 * used) zone) index name has));
-    step = record {
-      answers = (is, get-objects_of (take (512 * used) zone) index name ∙ ap (λ f. found_or (take (512 * used) zone) f None) none, refl);
-      stay_lost = λ d h. h;
-    };
+    step = (is, get-objects_of (take (512 * used) zone) index name ∙ ap (λ f. found_or (take (512 * used) zone) f None) none, loses_none _);
     written = refl;
     lost = refl;
   }
@@ -84,7 +83,7 @@ module _ (blocks shard used : ℕ) (index : List Stored) (zone : List ℕ) (lost
       let object = object_from_entry (take (512 * used) zone) index name has in
       record {
         cause = (object, still_working working);
-        step = record { answers = (tt, λ _. object, refl); stay_lost = λ d h. h };
+        step = (tt, λ _. object, loses_none _);
         written = refl;
         lost = refl;
       }
@@ -93,7 +92,7 @@ module _ (blocks shard used : ℕ) (index : List Stored) (zone : List ℕ) (lost
   pub put_memory : (name object : List ℕ) → Accepts (blocks - used) shard name object → lost ≡ false → Move blocks shard (store_over index lost (take (512 * used) zone)) (Put name object) (Refused Memory) (store_over index lost (take (512 * used) zone))
   put_memory name object accepts working = record {
     cause = (accepts_still name object accepts, still_working working);
-    step = record { answers = (tt, refl); stay_lost = λ d h. h };
+    step = (tt, loses_none _);
     written = refl;
     lost = refl;
   }
@@ -104,7 +103,7 @@ module _ (blocks shard used : ℕ) (index : List Stored) (zone : List ℕ) (lost
       let object = object_from_entry (take (512 * used) zone) index name has in
       subst (λ (w : List ℕ). Move blocks shard (store_over index lost (take (512 * used) zone)) (Get name) (Refused (TooFewFragments 1 2)) (store_over index true w)) (sym same) (record {
         cause = (object, lost_to, refl, refl);
-        step = record { answers = (tt, λ _. object, refl); stay_lost = stay_lost lost };
+        step = (tt, λ _. object, record { rest = record { objects = refl }; stay_lost = stay_lost lost });
         written = refl;
         lost = now_lost lost;
       })
@@ -113,7 +112,7 @@ module _ (blocks shard used : ℕ) (index : List Stored) (zone : List ℕ) (lost
   put_lost name object other accepts same =
       subst (λ (w : List ℕ). Move blocks shard (store_over index lost (take (512 * used) zone)) (Put name object) (Refused (TooFewFragments 1 2)) (store_over index true w)) (sym same) (record {
         cause = (accepts_still name object accepts, lost_to, refl, refl);
-        step = record { answers = (tt, refl); stay_lost = stay_lost lost };
+        step = (tt, record { rest = record { objects = refl }; stay_lost = stay_lost lost });
         written = refl;
         lost = now_lost lost;
       })
@@ -124,16 +123,13 @@ module _ (blocks shard used : ℕ) (index : List Stored) (zone : List ℕ) (lost
       let fits = found_kept (IsKept used shard) index name kept entry found in
       record {
         cause = (object_from_entry (take (512 * used) zone) index name (ap (λ o. is_some o) found), still_working working);
-        step = record {
-          answers = (
-            get-objects_of (take (512 * used) zone) index name
-                ∙ ap (λ f. found_or (take (512 * used) zone) f None) found
-                ∙ ap (λ (l : List ℕ). Some l) (object_at-take zone used entry.first entry.length holds.at_least fits.0 ∙ sym is),
-            omega (arith, long, fits.1, small),
-            refl,
-          );
-          stay_lost = λ d h. h;
-        };
+        step = (
+          get-objects_of (take (512 * used) zone) index name
+              ∙ ap (λ f. found_or (take (512 * used) zone) f None) found
+              ∙ ap (λ (l : List ℕ). Some (Whole l)) (object_at-take zone used entry.first entry.length holds.at_least fits.0 ∙ sym is),
+          omega (arith, long, fits.1, small),
+          loses_none _,
+        );
         written = refl;
         lost = refl;
       }
@@ -154,14 +150,14 @@ module _ (blocks shard used : ℕ) (index : List Stored) (zone : List ℕ) (lost
       ap (λ n. object_at (take (512 * used) zone ++ data_blocks object) n entry.length) first
       ∙ ap (object_at (take (512 * used) zone ++ data_blocks object) used) bytes
       ∙ object_at-end (take (512 * used) zone) object used length-written in
-      let all : objects_of (take (512 * used) zone ++ data_blocks object) (index ++ entry ∷ []) ≡ map.insert (objects_of (take (512 * used) zone) index) name object =
+      let all : objects_of (take (512 * used) zone ++ data_blocks object) (index ++ entry ∷ []) ≡ map.insert (objects_of (take (512 * used) zone) index) name (Whole object) =
       objects_of-push (take (512 * used) zone ++ data_blocks object) index entry
-      ∙ ap (λ m. map.insert m entry.name (object_at (take (512 * used) zone ++ data_blocks object) entry.first entry.length)) others
-      ∙ ap (λ (o : List ℕ). map.insert (objects_of (take (512 * used) zone) index) entry.name o) itself
-      ∙ ap (λ (n : List ℕ). map.insert (objects_of (take (512 * used) zone) index) n object) named in
+      ∙ ap (λ m. map.insert m entry.name (Whole (object_at (take (512 * used) zone ++ data_blocks object) entry.first entry.length))) others
+      ∙ ap (λ (o : List ℕ). map.insert (objects_of (take (512 * used) zone) index) entry.name (Whole o)) itself
+      ∙ ap (λ (n : List ℕ). map.insert (objects_of (take (512 * used) zone) index) n (Whole object)) named in
       subst (λ (w : List ℕ). Move blocks shard (store_over index lost (take (512 * used) zone)) (Put name object) Done (store_over (index ++ entry ∷ []) lost w)) (sym new_written) (record {
         cause = (accepts_still name object accepts, still_working working);
-        step = record { answers = (accepts.named, omega (arith, accepts.small, small), all); stay_lost = λ d h. h };
+        step = (accepts.named, omega (arith, accepts.small, small), record { rest = record { objects = all }; stay_lost = λ d h. h });
         written = refl;
         lost = refl;
       })

@@ -10,7 +10,8 @@ use Rattle.std.specs.FinMap.{get, insert, empty, get-insert, get-empty, slice_cm
 use Rattle.std.proofs.lemmas.Slice.Eq.{bytes_eq-Decides}
 use Rattle.std.proofs.lemmas.List.Elements.{recursion_from_All}
 use Rattle.std.proofs.lemmas.Option.{cond_some, none-some}
-use Rattle.object_machine.specs.State.{Map, HasObject}
+use Rattle.smore_base.specs.Objects.{Value, Map, Whole}
+use Rattle.object_machine.specs.State.{HasObject}
 use Rattle.smore_top.specs.declared.stored.Stored.{Stored}
 use Rattle.smore_top.specs.Blocks.{object_at}
 use Rattle.smore_top.specs.Index.{newer_of, newest_of, HasEntry, objects_over, objects_of}
@@ -25,11 +26,11 @@ same_test name key =
     (bytes_eq-Decides key name)
 
 -- the object of an entry that was found, or what was there
-abbrev pub found_or : List ℕ → Option Stored → Option (List ℕ) → Option (List ℕ)
-found_or zone (Some entry) there = Some (object_at zone entry.first entry.length)
+abbrev pub found_or : List ℕ → Option Stored → Option Value → Option Value
+found_or zone (Some entry) there = Some (Whole (object_at zone entry.first entry.length))
 found_or zone None there = there
 
-one_more : (zone name : List ℕ) (entry : Stored) (found : Option Stored) (b : Bool) (there : Option (List ℕ)) → b ≡ bytes_eq entry.name name → found_or zone found (cond b (Some (object_at zone entry.first entry.length)) there) ≡ found_or zone (newer_of found entry name) there
+one_more : (zone name : List ℕ) (entry : Stored) (found : Option Stored) (b : Bool) (there : Option Value) → b ≡ bytes_eq entry.name name → found_or zone found (cond b (Some (Whole (object_at zone entry.first entry.length))) there) ≡ found_or zone (newer_of found entry name) there
 one_more zone name entry (Some later) b there is = refl
 one_more zone name entry None true there is = ap (λ c. found_or zone (cond c (Some entry) None) there) is
 one_more zone name entry None false there is = ap (λ c. found_or zone (cond c (Some entry) None) there) is
@@ -37,8 +38,8 @@ one_more zone name entry None false there is = ap (λ c. found_or zone (cond c (
 get-objects_over : (zone : List ℕ) (entries : List Stored) (objects : Map) (name : List ℕ) → get (objects_over zone entries objects) name ≡ found_or zone (newest_of entries name) (get objects name)
 get-objects_over zone [] objects name = refl
 get-objects_over zone (entry ∷ entries) objects name =
-    get-objects_over zone entries (insert objects entry.name (object_at zone entry.first entry.length)) name
-    ∙ ap (found_or zone (newest_of entries name)) (get-insert nat_list_cmp_total objects entry.name (object_at zone entry.first entry.length) name)
+    get-objects_over zone entries (insert objects entry.name (Whole (object_at zone entry.first entry.length))) name
+    ∙ ap (found_or zone (newest_of entries name)) (get-insert nat_list_cmp_total objects entry.name (Whole (object_at zone entry.first entry.length)) name)
     ∙ one_more zone name entry (newest_of entries name) (eq_by_cmp (slice_cmp nat_cmp) name entry.name) (get objects name) (same_test name entry.name)
 
 pub get-objects_of : (zone : List ℕ) (entries : List Stored) (name : List ℕ) → get (objects_of zone entries) name ≡ found_or zone (newest_of entries name) None
@@ -60,19 +61,19 @@ pub entry_from_object : (zone : List ℕ) (entries : List Stored) (name : List �
 entry_from_object zone entries name has = was_found zone (newest_of entries name) (subst IsSome (get-objects_of zone entries name) has)
 
 -- one entry more
-objects_over-push : (zone : List ℕ) (entries : List Stored) (entry : Stored) (objects : Map) → objects_over zone (entries ++ entry ∷ []) objects ≡ insert (objects_over zone entries objects) entry.name (object_at zone entry.first entry.length)
+objects_over-push : (zone : List ℕ) (entries : List Stored) (entry : Stored) (objects : Map) → objects_over zone (entries ++ entry ∷ []) objects ≡ insert (objects_over zone entries objects) entry.name (Whole (object_at zone entry.first entry.length))
 objects_over-push zone [] entry objects = refl
-objects_over-push zone (first ∷ entries) entry objects = objects_over-push zone entries entry (insert objects first.name (object_at zone first.first first.length))
+objects_over-push zone (first ∷ entries) entry objects = objects_over-push zone entries entry (insert objects first.name (Whole (object_at zone first.first first.length)))
 
-pub objects_of-push : (zone : List ℕ) (entries : List Stored) (entry : Stored) → objects_of zone (entries ++ entry ∷ []) ≡ insert (objects_of zone entries) entry.name (object_at zone entry.first entry.length)
+pub objects_of-push : (zone : List ℕ) (entries : List Stored) (entry : Stored) → objects_of zone (entries ++ entry ∷ []) ≡ insert (objects_of zone entries) entry.name (Whole (object_at zone entry.first entry.length))
 objects_of-push zone entries entry = objects_over-push zone entries entry empty
 
 -- bytes in which each entry has the same object give the same objects
 same_objects : (zone other : List ℕ) (P : Stored → Type 0) → ((entry : Stored) → P entry → object_at other entry.first entry.length ≡ object_at zone entry.first entry.length) → (entries : List Stored) (objects : Map) → AllByRecursion P entries → objects_over other entries objects ≡ objects_over zone entries objects
 same_objects zone other P same [] objects kept = refl
 same_objects zone other P same (entry ∷ entries) objects kept =
-    ap (λ (o : List ℕ). objects_over other entries (insert objects entry.name o)) (same entry kept.0)
-    ∙ same_objects zone other P same entries (insert objects entry.name (object_at zone entry.first entry.length)) kept.1
+    ap (λ (o : List ℕ). objects_over other entries (insert objects entry.name (Whole o))) (same entry kept.0)
+    ∙ same_objects zone other P same entries (insert objects entry.name (Whole (object_at zone entry.first entry.length))) kept.1
 
 pub objects_of-same : (zone other : List ℕ) (P : Stored → Type 0) → ((entry : Stored) → P entry → object_at other entry.first entry.length ≡ object_at zone entry.first entry.length) → (entries : List Stored) → All P entries → objects_of other entries ≡ objects_of zone entries
 objects_of-same zone other P same entries kept = same_objects zone other P same entries empty (recursion_from_All P entries kept)

@@ -7,7 +7,7 @@ use Rattle.object_machine.specs.declared.op.Op.TheVariants.{Put, Get}
 use Rattle.object_machine.specs.declared.reply.Reply.{Reply}
 use Rattle.object_machine.specs.declared.reply.Reply.TheVariants.{Done, Object, NotFound, Refused}
 use Rattle.object_machine.specs.declared.reply.Refusal.{Refusal}
-use Rattle.object_machine.specs.declared.reply.Refusal.TheVariants.{Memory, NameBad, TooLarge, Full, TooFewFragments}
+use Rattle.object_machine.specs.declared.reply.Refusal.TheVariants.{Memory, NameBad, TooLarge, Full, TooFewFragments, Damaged}
 use Rattle.object_machine.specs.declared.machine.Entry.{Entry}
 use Rattle.smore_top.specs.declared.request.Request.{Request}
 use Rattle.smore_top.specs.declared.request.Request.TheVariants.{Call, Stop}
@@ -72,6 +72,7 @@ refusal_fields (NameBad n) = (20, n, 0)
 refusal_fields (TooLarge n) = (21, n, 0)
 refusal_fields (Full need room) = (22, need, room)
 refusal_fields (TooFewFragments of_set missing) = (24, of_set, missing)
+refusal_fields (Damaged upload part) = (32, upload, part)
 
 abbrev pub refusal_body : ℕ × ℕ × ℕ → List ℕ
 refusal_body fields = 0 ∷ fields.0 ∷ to_be_bytes w64 fields.1 ++ to_be_bytes w64 fields.2

@@ -2,7 +2,7 @@
 use Rattle.std.specs.Prelude.{ℕ, ◌+◌, ◌≤◌, List, [], ◌∷◌, Option, Some, None, IsSome, if◌then◌else◌}
 use Rattle.std.specs.Str.{bytes_eq}
 use Rattle.std.specs.FinMap as map
-use Rattle.object_machine.specs.State.{Map}
+use Rattle.smore_base.specs.Objects.{Map, Whole}
 use Rattle.smore_top.specs.declared.stored.Stored.{Stored}
 use Rattle.smore_top.specs.Blocks.{blocks_of, object_at}
 
@@ -26,7 +26,7 @@ IsKept used shard entry = (entry.first + blocks_of entry.length ≤ used) × (en
 -- the objects of the entries in a zone's bytes, over those that were there; later entries count
 abbrev pub objects_over : List ℕ → List Stored → Map → Map
 objects_over zone [] objects = objects
-objects_over zone (entry ∷ entries) objects = objects_over zone entries (map.insert objects entry.name (object_at zone entry.first entry.length))
+objects_over zone (entry ∷ entries) objects = objects_over zone entries (map.insert objects entry.name (Whole (object_at zone entry.first entry.length)))
 
 abbrev pub objects_of : List ℕ → List Stored → Map
 objects_of zone entries = objects_over zone entries map.empty

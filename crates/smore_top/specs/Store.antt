@@ -45,11 +45,7 @@ Cause has room shard lost (Get name) (Refused Memory) = has name × (lost → �
 Cause has room shard lost (Get name) (Refused (NameBad n)) = (IsName name → ⊥) × (n ≡ length name)
 Cause has room shard lost (Get name) (Refused (TooFewFragments of_set missing)) = has name × lost × (of_set ≡ 1) × (missing ≡ 2)
 -- no other answer comes
-Cause has room shard lost (Put name object) (Object bytes) = ⊥
-Cause has room shard lost (Put name object) NotFound = ⊥
-Cause has room shard lost (Get name) Done = ⊥
-Cause has room shard lost (Get name) (Refused (TooLarge n)) = ⊥
-Cause has room shard lost (Get name) (Refused (Full need left)) = ⊥
+Cause has room shard lost op reply = ⊥
 
 -- a put that is done adds its object's blocks
 abbrev pub written_after : Op → Reply → List ℕ → List ℕ

@@ -39,6 +39,7 @@ fn fields_of(why: &Refusal) -> (u8, u64, u64)
         Refusal::TooLarge { length } => (21, length, 0),
         Refusal::Full { need, room } => (22, u64::from(need), u64::from(room)),
         Refusal::TooFewFragments { set, missing } => (24, set, u64::from(missing)),
+        Refusal::Damaged { upload, part } => (32, upload, u64::from(part)),
     }
 }
 
