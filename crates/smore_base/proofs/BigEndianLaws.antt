@@ -3,7 +3,7 @@ use Rattle.std.proofs.Common.{subst, map, ◌-◌, ◌^◌, ◌≡◌, ℕ, ◌+
 use Rattle.std.specs.Int.{Width, byte_len, w8, w16, w32, w64}
 use Rattle.std.proofs.Math.Seq.{take-add}
 use Rattle.std.proofs.lemmas.Bool.{cases_lt}
-use Rattle.std.proofs.lemmas.List.{append-nil, append_assoc, take_at, drop_at, drop-drop, length-append, length-take, length-drop, get_or-take, get_or-drop, get_or_past}
+use Rattle.std.proofs.lemmas.List.{append-nil, append_assoc, take_all, take_at, drop_at, drop-drop, length-append, length-take, length-drop, get_or-take, get_or-drop, get_or_past}
 use Rattle.std.proofs.lemmas.Nat.{be_bytes_2, be_bytes_4, be_bytes_8, from_be_bytes-to_be_bytes_2, from_be_bytes-to_be_bytes_4, from_be_bytes-to_be_bytes_8}
 use Rattle.smore_base.specs.BigEndian.{big_endian, number_of, number_at, AreBytes, IsWritten, Stands, IsExact, Fields, spelled, fields_at, bytes_of}
 
@@ -48,10 +48,10 @@ exact64 = record {
   within = λ bytes fits. omega (arith, fits 0, fits 1, fits 2, fits 3, fits 4, fits 5, fits 6, fits 7);
 }
 
-AreBytes-drop : (n : ℕ) (bytes : List ℕ) → AreBytes bytes → AreBytes (drop n bytes)
+pub AreBytes-drop : (n : ℕ) (bytes : List ℕ) → AreBytes bytes → AreBytes (drop n bytes)
 AreBytes-drop n bytes fits i = rw get_or-drop (fits (n + i))
 
-AreBytes-take : (n : ℕ) (bytes : List ℕ) → AreBytes bytes → AreBytes (take n bytes)
+pub AreBytes-take : (n : ℕ) (bytes : List ℕ) → AreBytes bytes → AreBytes (take n bytes)
 AreBytes-take n bytes fits i =
     elim (cases_lt i n) [
       | inl lt ↦ rw (get_or-take n bytes i 0 lt) (fits i)
@@ -73,15 +73,22 @@ pub byte_is : (n : ℕ) → n < 256 → big_endian w8 n ≡ n ∷ []
 unfolding big_endian
 byte_is n lt = ap (λ (y : ℕ). y ∷ []) (omega arith)
 
+pub number_at-fits : (w : Width) (bytes : List ℕ) (at : ℕ) → IsExact w → AreBytes bytes → number_at w bytes at < 256 ^ byte_len w
+number_at-fits w bytes at exact fits = exact.within (take (byte_len w) (drop at bytes)) (AreBytes-take (byte_len w) (drop at bytes) (AreBytes-drop at bytes fits))
+
 -- ---- one field behind the other
 
-pub IsWritten-then : (a b c : ℕ) (x y old mid new : List ℕ) → b ≤ c → IsWritten a b x old mid → IsWritten b c y mid new → IsWritten a c (x ++ y) old new
-IsWritten-then a b c x y old mid new le first second =
+pub IsWritten-then : {a b c : ℕ} {x y old mid new : List ℕ} → IsWritten a b x old mid → IsWritten b c y mid new → b ≤ c → IsWritten a c (x ++ y) old new
+IsWritten-then {a} {b} {c} {x} {y} {old} {mid} {new} first second le =
     let from_b : (xs : List ℕ) → drop c xs ≡ drop (c - b) (drop b xs) = λ xs. ap (λ (n : ℕ). drop n xs) (omega arith) ∙ sym (drop-drop (c - b) b xs) in
     record {
       prefix = second.prefix ∙ ap (λ (text : List ℕ). text ++ y) first.prefix ∙ append_assoc (take a old) x y;
       rest = second.rest ∙ from_b mid ∙ ap (drop (c - b)) first.rest ∙ sym (from_b old);
     }
+
+-- what was written fills all
+pub IsWritten-all : {n : ℕ} {text old new : List ℕ} → IsWritten 0 n text old new → length new ≤ n → new ≡ text
+IsWritten-all {n} {text} {old} {new} written long = sym (take_all n new long) ∙ written.prefix
 
 -- nothing was written
 pub IsWritten-nothing : (at : ℕ) (bytes : List ℕ) → IsWritten at at [] bytes bytes

@@ -1,0 +1,5 @@
+pub mod Formats
+pub mod FootLaws
+pub mod LabelLaws
+pub mod MarkerLaws
+pub mod Tests

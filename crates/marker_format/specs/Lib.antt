@@ -1,0 +1,5 @@
+pub mod Foot
+pub mod Frame
+pub mod Kind
+pub mod Label
+pub mod Marker

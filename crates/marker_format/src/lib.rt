@@ -1,0 +1,14 @@
+//! What stands on the drives: markers of records, labels of devices and feet of zones, the blocks that hold them, and
+//! the grammar by which a zone's bytes are records. `docs/FORMATS.md` has the tables.
+#![tactic(auto)]
+
+mod foot;
+mod kind;
+mod label;
+mod magic;
+mod marker;
+
+pub use foot::{FOOT_BYTES, Foot, read_foot, write_foot};
+pub use kind::Kind;
+pub use label::{LABEL_BYTES, Label, read_label, write_label};
+pub use marker::{COUNTER_END, MARKER_BYTES, MAX_RECORDS, Marker, read_marker, write_marker};
