@@ -1,5 +1,5 @@
 -- A foot is read exactly from its spelling.
-use Rattle.std.proofs.Common.{◌≡◌, ℕ, List, [], ◌∷◌, ◌++◌, drop, get_or, refl, sym, ap, ◌∙◌, arith}
+use Rattle.std.proofs.Common.{length, ◌≡◌, ℕ, List, [], ◌∷◌, ◌++◌, drop, get_or, refl, sym, ap, ◌∙◌, arith}
 use Rattle.std.specs.Prelude.{codes}
 use Rattle.std.specs.Int.{w8, w16, w32, w64, Width}
 use Rattle.std.proofs.lemmas.List.{append-nil, drop_all, length-append}
@@ -62,3 +62,11 @@ spelling_of-frame f is = (omega (arith, length-append magic (spelled (fields_of 
 
 pub one_spelling : (a b : Foot) → IsFoot a → IsFoot b → spelling_of a ≡ spelling_of b → a ≡ b
 one_spelling a b a-is b-is e = sym (foot_at-again a a-is) ∙ ap foot_at e ∙ foot_at-again b b-is
+
+pub length-spelling_of : (f : Foot) → IsFoot f → length (spelling_of f) ≡ 27
+length-spelling_of f is = (spelling_of-frame f is).0
+
+-- also where a number is too great for its field
+pub length-spelling : (f : Foot) → length (spelling_of f) ≡ 27
+unfolding spelling_of
+length-spelling f = omega (arith, length-append magic (spelled (fields_of f)), length-spelled (fields_of f) exact)

@@ -72,3 +72,11 @@ spelling_of-frame f is = (omega (arith, length-append magic (spelled (fields_of 
 
 pub one_spelling : (a b : Label) → IsLabel a → IsLabel b → spelling_of a ≡ spelling_of b → a ≡ b
 one_spelling a b a-is b-is e = sym (label_at-again a a-is) ∙ ap label_at e ∙ label_at-again b b-is
+
+pub length-spelling_of : (f : Label) → IsLabel f → length (spelling_of f) ≡ 39
+length-spelling_of f is = (spelling_of-frame f is).0
+
+-- also where a number is too great for its field
+pub length-spelling : (f : Label) → length f.array ≡ 16 → length (spelling_of f) ≡ 39
+unfolding spelling_of
+length-spelling f array = omega (arith, array, length-append magic (spelled (fields_of f) ++ f.array), length-append (spelled (fields_of f)) f.array, length-spelled (fields_of f) exact)

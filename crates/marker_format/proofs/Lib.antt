@@ -1,3 +1,4 @@
+pub mod BlockLaws
 pub mod Formats
 pub mod FootLaws
 pub mod LabelLaws
