@@ -4,3 +4,4 @@ pub mod FootLaws
 pub mod LabelLaws
 pub mod MarkerLaws
 pub mod Tests
+pub mod ZoneLaws

@@ -3,6 +3,7 @@ pub mod Foot
 pub mod Frame
 pub mod Kind
 pub mod Label
+pub mod Laws
 pub mod Marker
 pub mod Tag
 pub mod Zone

@@ -22,7 +22,7 @@ const BLOCK: usize = 512;
 /// Writes the block that holds the marker.
 pub fn write_marker_block(marker: &Marker, out: &mut [u8])
     requires marker { IsMarker marker.now }
-    requires long { length out.old ≡ 512 }
+    requires long { length out.old ≡ BLOCK }
     ensures { out.new ≡ marker_block marker.now }
 {
     let at = write_u8(out, 0, Tag::Marker.number());
@@ -32,7 +32,7 @@ pub fn write_marker_block(marker: &Marker, out: &mut [u8])
 
 /// Writes the block that holds the foot.
 pub fn write_foot_block(foot: &Foot, out: &mut [u8])
-    requires { length out.old ≡ 512 }
+    requires { length out.old ≡ BLOCK }
     ensures { out.new ≡ foot_block foot.now }
 {
     let at = write_u8(out, 0, Tag::Foot.number());
@@ -42,7 +42,7 @@ pub fn write_foot_block(foot: &Foot, out: &mut [u8])
 
 /// Writes the block that holds the label.
 pub fn write_label_block(label: &Label, out: &mut [u8])
-    requires { length out.old ≡ 512 }
+    requires { length out.old ≡ BLOCK }
     ensures { out.new ≡ label_block label.now }
 {
     let at = write_u8(out, 0, Tag::Label.number());
@@ -53,7 +53,7 @@ pub fn write_label_block(label: &Label, out: &mut [u8])
 /// Writes the block that holds these bytes of a fragment, 511 at most.
 pub fn write_data_block(piece: &[u8], out: &mut [u8])
     requires short { length piece.now ≤ 511 }
-    requires long { length out.old ≡ 512 }
+    requires long { length out.old ≡ BLOCK }
     ensures { out.new ≡ data_block piece.now }
 {
     let at = write_u8(out, 0, Tag::Data.number());

@@ -28,7 +28,7 @@ pub struct Foot {
 
 /// Writes the one spelling of the foot.
 pub fn write_foot(foot: &Foot, out: &mut [u8])
-    requires { length out.old ≡ 27 }
+    requires { length out.old ≡ FOOT_BYTES }
     ensures { out.new ≡ spelling_of foot.now }
 {
     let at = write_bytes(out, 0, MAGIC);
@@ -40,7 +40,7 @@ pub fn write_foot(foot: &Foot, out: &mut [u8])
 }
 
 fn foot_of(bytes: &[u8]) -> Foot
-    requires { length bytes.now ≡ 27 }
+    requires { length bytes.now ≡ FOOT_BYTES }
     ensures { result ≡ foot_at bytes.now }
 {
     Foot {

@@ -24,7 +24,7 @@ pub struct Label {
 
 /// Writes the one spelling of the label.
 pub fn write_label(label: &Label, out: &mut [u8])
-    requires { length out.old ≡ 39 }
+    requires { length out.old ≡ LABEL_BYTES }
     ensures { out.new ≡ spelling_of label.now }
 {
     let geometry = &label.geometry;
@@ -41,7 +41,7 @@ pub fn write_label(label: &Label, out: &mut [u8])
 }
 
 fn label_of(bytes: &[u8]) -> Label
-    requires { length bytes.now ≡ 39 }
+    requires { length bytes.now ≡ LABEL_BYTES }
     ensures { result ≡ label_at bytes.now }
 {
     let geometry = Geometry {

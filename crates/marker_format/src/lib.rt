@@ -6,6 +6,7 @@ mod block;
 mod foot;
 mod kind;
 mod label;
+mod laws;
 mod magic;
 mod marker;
 mod tag;
@@ -17,5 +18,12 @@ pub use block::{
 pub use foot::{FOOT_BYTES, Foot, read_foot, write_foot};
 pub use kind::Kind;
 pub use label::{LABEL_BYTES, Label, read_label, write_label};
+pub use laws::{
+    blocks_hold_markers, cut_zones_have_the_first_records, longer_zones_keep_records,
+    records_are_the_longest, records_count_in_whole_zones, spellings_are_apart,
+};
 pub use marker::{COUNTER_END, MARKER_BYTES, MAX_RECORDS, Marker, read_marker, write_marker};
 pub use tag::Tag;
+
+#[cfg(test)]
+mod tests;

@@ -161,7 +161,7 @@ fn write_fields(marker: &Marker, out: &mut [u8], at: usize) -> usize
 }
 
 fn write_name(name: &[u8], out: &mut [u8], at: usize)
-    requires short { length name.now ≤ 255 }
+    requires short { length name.now ≤ MAX_NAME_BYTES }
     requires room { length out.old ≡ at + 256 }
     ensures { out.new ≡ take at out.old ++ name_field name.now }
 {
@@ -182,7 +182,7 @@ fn bytes_of(name: &Option<Name>) -> &[u8]
 /// Writes the one spelling of the marker.
 pub fn write_marker(marker: &Marker, out: &mut [u8])
     requires marker { IsMarker marker.now }
-    requires long { length out.old ≡ 328 }
+    requires long { length out.old ≡ MARKER_BYTES }
     ensures { out.new ≡ spelling_of marker.now }
 {
     let at = write_bytes(out, 0, MAGIC);
@@ -192,7 +192,7 @@ pub fn write_marker(marker: &Marker, out: &mut [u8])
 }
 
 fn name_at(bytes: &[u8]) -> Option<Name>
-    requires { length bytes.now ≡ 328 }
+    requires { length bytes.now ≡ MARKER_BYTES }
     ensures { result ≡ name_of (number_at w8 bytes.now 72) (drop 73 bytes.now) }
 {
     let length = usize::from(read_u8(bytes, NAME_AT));
@@ -201,7 +201,7 @@ fn name_at(bytes: &[u8]) -> Option<Name>
 }
 
 fn marker_of(bytes: &[u8]) -> Marker
-    requires { length bytes.now ≡ 328 }
+    requires { length bytes.now ≡ MARKER_BYTES }
     ensures { result ≡ marker_at bytes.now }
 {
     Marker {
@@ -225,7 +225,7 @@ fn marker_of(bytes: &[u8]) -> Marker
 
 /// Whether only zeros stand behind the name.
 fn is_padded(bytes: &[u8]) -> bool
-    requires { length bytes.now ≡ 328 }
+    requires { length bytes.now ≡ MARKER_BYTES }
     ensures { IsTrue result ↔ IsPadded bytes.now }
 {
     let behind = NAME_AT + 1 + usize::from(read_u8(bytes, NAME_AT));
