@@ -1,7 +1,7 @@
 -- Which bays can't be opened.
 use Rattle.std.proofs.Common.{◌≡◌, ℕ, length, sym, ap, ◌∙◌, lit<}
 use Rattle.zone_bay.specs.Contents.{Shape, Contents}
-use Rattle.smore_top.specs.declared.label.Label.{Label}
+use Rattle.marker_format.specs.declared.label.Label.{Label}
 use Rattle.smore_top.specs.Label.{HasLabel, label_of}
 use Rattle.smore_top.specs.Opening.{OpensWithNone}
 use Rattle.smore_top.proofs.LabelBlock.{same_label, IsLabelOf-fits}

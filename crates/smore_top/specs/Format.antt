@@ -2,7 +2,8 @@
 use Rattle.std.specs.Prelude.{◌≡◌, ◌≢◌, ◌⊎◌, ℕ, ◌<◌, ◌≤◌, List, []}
 use Rattle.smore_base.specs.declared.geometry.Geometry.{Geometry}
 use Rattle.zone_bay.specs.Contents.{Shape, Contents}
-use Rattle.smore_top.specs.Label.{label_of, label_block}
+use Rattle.marker_format.specs.Block.{label_block}
+use Rattle.smore_top.specs.Label.{label_of}
 
 -- one zone holds these bytes now, and the others what they held
 pub record ZoneHolds (device zone : ℕ) (bytes : List ℕ) (before after : Contents) : Type 0 where

@@ -1,36 +1,11 @@
--- The label of a device: which device of which array it is.
-use Rattle.std.specs.Prelude.{◌≡◌, ℕ, ◌+◌, ◌^◌, ◌<◌, List, [], ◌∷◌, ◌++◌, length, take, replicate, codes}
-use Rattle.std.specs.Int.{w16, w32, to_be_bytes}
+-- Which labels are those of a bay's devices.
+use Rattle.std.specs.Prelude.{◌≡◌, ℕ, ◌+◌, ◌<◌, List, length, take}
 use Rattle.smore_base.specs.declared.geometry.Geometry.{Geometry}
 use Rattle.smore_base.specs.Geometry.{IsWithinLimits}
 use Rattle.zone_bay.specs.Contents.{Shape, Contents}
-use Rattle.smore_top.specs.declared.label.Label.{Label}
-
--- each field has its width
-pub record IsLabel (l : Label) : Type 0 where
-  pub version : l.version < 2 ^ 8
-  pub device : l.device < 2 ^ 8
-  pub drives : l.geometry.drives < 2 ^ 8
-  pub k : l.geometry.k < 2 ^ 8
-  pub p : l.geometry.p < 2 ^ 8
-  pub zones : l.geometry.zones < 2 ^ 16
-  pub blocks : l.geometry.blocks < 2 ^ 32
-  pub shard : l.geometry.shard < 2 ^ 32
-  pub array : length l.array ≡ 16
-
--- the fields of a label, in order: 31 bytes
-unfoldable pub fields_of : Label → List ℕ
-fields_of l =
-    (l.version ∷ l.device ∷ l.geometry.drives ∷ l.geometry.k ∷ l.geometry.p ∷ [])
-    ++ (to_be_bytes w16 l.geometry.zones ++ (to_be_bytes w32 l.geometry.blocks ++ (to_be_bytes w32 l.geometry.shard ++ l.array)))
-
--- the one spelling of a label: 39 bytes
-unfoldable pub spelling_of : Label → List ℕ
-spelling_of l = codes "SMORELB1" ++ fields_of l
-
--- The block of a label: a tag, the spelling, and zeros to 512 bytes.
-unfoldable pub label_block : Label → List ℕ
-label_block l = 4 ∷ (spelling_of l ++ replicate 472 0)
+use Rattle.marker_format.specs.declared.label.Label.{Label}
+use Rattle.marker_format.specs.Label.{IsLabel}
+use Rattle.marker_format.specs.Block.{label_block}
 
 -- the label of a device, in the version that is written
 abbrev pub label_of : ℕ → Geometry → List ℕ → Label

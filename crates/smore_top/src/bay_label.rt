@@ -1,37 +1,15 @@
 ghost use Rattle.std.specs.Prelude.{◌≡◌, ◌<◌, ◌≤◌, ◌↔◌, length, take, replicate, IsTrue, MatchOption, IfSome, IfNone, IfOk};
 ghost use Rattle.smore_top.specs.Calls.{CallsOn};
-ghost use Rattle.smore_top.specs.declared.label.Label.{Label as LabelSeen};
-ghost use Rattle.smore_top.specs.Label.{IsLabel, IsOfBay, IsLabelOf, BeginsWith, BeginsWithNone, HasLabel, HasNoLabel, label_block};
+ghost use Rattle.marker_format.specs.Label.{IsLabel};
+ghost use Rattle.smore_top.specs.Label.{IsOfBay, IsLabelOf, BeginsWith, BeginsWithNone, HasLabel, HasNoLabel};
 
 use crate::blocks::BLOCK;
-use crate::label::{LABEL_BYTES, Label, read_label};
+use marker_format::{Label, read_label_block};
 use smore_base::{BLOCK_BYTES, Geometry};
 use zone_bay::{Bay, Failed};
 
-/// The tag of a block that holds a label.
-pub(crate) const LABEL_TAG: u8 = 4;
-
 /// The first version of a label, and so far the only one.
 pub(crate) const VERSION: u8 = 1;
-
-fn are_zeros(bytes: &[u8]) -> bool
-    ensures { IsTrue result ↔ (bytes.now ≡ replicate (length bytes.now) 0) }
-{
-    bytes.iter().all(|byte| *byte == 0)
-}
-
-/// The label that the block holds.
-fn label_in_block(block: &[u8]) -> Option<Label>
-    requires { length block.now ≡ 512 }
-    ensures found { IfSome result (λ label. IsLabel label × (block.now ≡ label_block label)) }
-    ensures none { IfNone result ((label : LabelSeen) → IsLabel label → block.now ≡ label_block label → ⊥) }
-{
-    let (front, zeros) = block.split_at(1 + LABEL_BYTES);
-    if front[0] != LABEL_TAG || !are_zeros(zeros) {
-        return None;
-    }
-    read_label(&front[1..])
-}
 
 /// Whether the geometry is one of a bay of this shape.
 fn is_of_bay(geometry: &Geometry, devices: u8, zones: u16, blocks: u32) -> bool
@@ -84,7 +62,7 @@ fn first_label<B: Bay>(bay: &mut B, device: u8) -> Result<Option<Label>, Failed>
 {
     match first_block(bay, device)? {
         None => Ok(None),
-        Some(block) => Ok(label_in_block(&block)),
+        Some(block) => Ok(read_label_block(&block)),
     }
 }
 

@@ -3,13 +3,14 @@ ghost use Rattle.smore_base.specs.Geometry.{IsWithinLimits};
 ghost use Rattle.smore_base.specs.Told.{Told};
 ghost use Rattle.zone_bay.specs.Outside.{Rose};
 ghost use Rattle.smore_top.specs.Calls.{CallsOn};
-ghost use Rattle.smore_top.specs.Label.{IsOfBay, label_of, label_block};
+ghost use Rattle.marker_format.specs.Block.{label_block};
+ghost use Rattle.smore_top.specs.Label.{IsOfBay, label_of};
 ghost use Rattle.smore_top.specs.Format.{ZoneHolds, AreEmptied, DeviceHolds, IsFormatted};
 
-use crate::bay_label::{LABEL_TAG, VERSION};
+use crate::bay_label::VERSION;
 use crate::blocks::BLOCK;
-use crate::label::{LABEL_BYTES, Label, write_label};
 use crate::store_core::Core;
+use marker_format::{Label, write_label_block};
 use smore_base::Geometry;
 use thiserror::Error;
 use zone_bay::{Bay, Failed};
@@ -25,8 +26,7 @@ fn block_of(label: &Label) -> [u8; BLOCK]
     ensures { result ≡ label_block label.now }
 {
     let mut block = [0; BLOCK];
-    block[0] = LABEL_TAG;
-    write_label(label, &mut block[1..1 + LABEL_BYTES]);
+    write_label_block(label, &mut block);
     block
 }
 

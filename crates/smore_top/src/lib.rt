@@ -6,7 +6,6 @@ mod bay_label;
 mod blocks;
 mod calls;
 mod format;
-mod label;
 mod memory_sink;
 mod memory_source;
 mod newest;
@@ -22,7 +21,6 @@ mod words;
 
 pub use batch::{Outcome, run_batch};
 pub use format::FormatFailed;
-pub use label::{Label, read_label, write_label};
 pub use memory_sink::MemorySink;
 pub use memory_source::MemorySource;
 pub use opening::OpenRefusal;
