@@ -1,5 +1,5 @@
 -- Calls toward a goal: what is held is extended by it at every moment, so a crash leaves an image of it.
-use Rattle.std.proofs.Common.{◌≡◌, ◌++◌, ℕ, ◌≤◌, true, false, List, length, Option, Some, None, IfSome, Result, Ok, Err, subst, sym, arith, inl, inr}
+use Rattle.std.proofs.Common.{◌≡◌, ◌++◌, ℕ, ◌≤◌, true, false, List, length, Option, Some, None, IfSome, Result, Ok, Err, refl, subst, sym, arith, inl, inr}
 use Rattle.std.specs.Prelude.{option_map, unwrap_or, []}
 use Rattle.std.specs.Result.{IsErr}
 use Rattle.std.proofs.lemmas.List.{length-append}
@@ -9,14 +9,18 @@ use Rattle.zone_bay.specs.Contents.{Contents, Lengths, appended, Extends}
 use Rattle.zone_bay.specs.Images.{IsImage, ImageOf}
 use Rattle.zone_bay.specs.Bay.{BayState, IsSound, Call, Written, Read, Append, Reset, Flush, Replace, device_of, made_by, part_made_by, firm_after, Makes}
 use Rattle.zone_bay.specs.Laws.{NoMoreFirm}
-use Rattle.zone_bay.specs.Stretch.{GoesOn, LeftAround, IsOnTheWay, IsToward, StaysToward}
+use Rattle.zone_bay.specs.Stretch.{LeftAround, IsOnTheWay, IsToward, StaysToward, GoesToward, FailsOver, FailsToward}
 use Rattle.zone_bay.proofs.Extends.{elsewhere, extends_then, part_extends}
 use Rattle.zone_bay.proofs.Images.{more_leaves_more, less_firm_leaves_more, flushed_no_less}
-use Rattle.zone_bay.proofs.Calls.{firm_done, firm_failed, one_more}
+use Rattle.zone_bay.proofs.Calls.{firm_done, firm_failed, one_more, fails_over}
+use Rattle.zone_bay.proofs.Stretch.{goes_nowhere, goes_weaker}
 
 -- before the first call
-pub toward_start : (goal : Contents → Contents) (bay : BayState) → ((held : Contents) → Extends held (goal held)) → IsToward goal bay bay
-toward_start goal bay extends = Told-same bay.contents _ (λ held. record { extends = extends held; no_less = λ d z. omega arith })
+pub toward_start : (goal : Contents → Contents) (bay : BayState) (Q : ℕ → ℕ → Type 0) → ((held : Contents) → Extends held (goal held)) → GoesToward goal bay bay Q
+toward_start goal bay Q extends = record {
+  toward = Told-same bay.contents _ (λ held. record { extends = extends held; no_less = λ d z. omega arith });
+  goes_on = goes_nowhere bay _ Q;
+}
 
 -- images of what is held on the way are images of the goal
 image_on_the_way : (goal : Contents) (firm : Lengths) (held : Contents) (now : Lengths) (image : Contents) → NoMoreFirm held now → IsOnTheWay goal firm held now → IsImage held now image → IsImage goal firm image
@@ -72,12 +76,27 @@ toward_failed n call goal None (Some h) firm now after way stays is = absurd way
 toward_failed n call goal (Some f) None firm now after way stays is = absurd way
 toward_failed n call goal (Some f) (Some h) firm now after way stays is = subst (λ (l : Lengths). IsOnTheWay (goal f) firm (part_made_by n call h) l) (sym is) (way_failed n call (goal f) firm h now way stays)
 
--- After one call more that leads no further than the goal, what is held is still on the way to it.
-module _ (call : Call) (goal : Contents → Contents) (old mid new : BayState) (sound : IsSound mid) (toward : IsToward goal old mid) (stays : Told old.contents mid.contents (λ held at. StaysToward call (goal held) at)) where
-  pub toward_call : {T E : Type 0} (r : Result T E) → Makes call mid new r → IsToward goal old new
-  toward_call (Ok x) makes = subst (λ (c : Option Contents). Told old.contents c (λ f h. IsOnTheWay (goal f) old.firm h new.firm)) (sym makes.done) (toward_done call goal old.contents mid.contents old.firm mid.firm new.firm sound.firm_held toward stays (firm_done call mid new x makes))
-  toward_call (Err e) makes = subst (λ (c : Option Contents). Told old.contents c (λ f h. IsOnTheWay (goal f) old.firm h new.firm)) (sym makes.part.1) (toward_failed makes.part.0 call goal old.contents mid.contents old.firm mid.firm new.firm toward stays (firm_failed call mid new e makes))
+-- one call more, which leads no further than the goal
+module _ (call : Call) (goal : Contents → Contents) (old mid new : BayState) (Q : ℕ → ℕ → Type 0) (sound : IsSound mid) (so_far : GoesToward goal old mid Q) where
+  still_toward : {T E : Type 0} (r : Result T E) → Told old.contents mid.contents (λ held at. StaysToward call (goal held) at) → Makes call mid new r → IsToward goal old new
+  still_toward (Ok x) stays makes = subst (λ (c : Option Contents). Told old.contents c (λ f h. IsOnTheWay (goal f) old.firm h new.firm)) (sym makes.done) (toward_done call goal old.contents mid.contents old.firm mid.firm new.firm sound.firm_held so_far.toward stays (firm_done call mid new x makes))
+  still_toward (Err e) stays makes = subst (λ (c : Option Contents). Told old.contents c (λ f h. IsOnTheWay (goal f) old.firm h new.firm)) (sym makes.part.1) (toward_failed makes.part.0 call goal old.contents mid.contents old.firm mid.firm new.firm so_far.toward stays (firm_failed call mid new e makes))
 
-  -- and a crash in it or after it leaves an image of what the goal makes of what was held
-  pub toward_goes : {T E : Type 0} (r : Result T E) (Q : ℕ → ℕ → Type 0) → Makes call mid new r → ((m : ℕ) → mid.moment ≤ m → IsErr r → Q (device_of call) m) → GoesOn old mid (λ _ image. ImageOf (option_map goal old.contents) old.firm image) Q → GoesOn old new (λ _ image. ImageOf (option_map goal old.contents) old.firm image) Q
-  toward_goes r Q makes failed so_far = one_more call old mid new r _ Q sound so_far makes (λ i image since left. around_on_the_way call goal old.contents mid.contents old.firm mid.firm image sound.firm_held toward stays left) failed
+  pub toward_call : {T E : Type 0} (r : Result T E) → Told old.contents mid.contents (λ held at. StaysToward call (goal held) at) → Makes call mid new r → ((m : ℕ) → IsErr r → Q (device_of call) m) → GoesToward goal old new Q
+  toward_call r stays makes failed = record {
+    toward = still_toward r stays makes;
+    goes_on = one_more call old mid new r _ Q sound so_far.goes_on makes (λ i image since left. around_on_the_way call goal old.contents mid.contents old.firm mid.firm image sound.firm_held so_far.toward stays left) (λ m since is. failed m is);
+  }
+
+  -- a call that failed, failed on the way
+  pub fails_toward : {T E : Type 0} (r : Result T E) → IsErr r → Makes call mid new r → IfSome old.contents (λ held. FailsToward (goal held) (device_of call) new)
+  fails_toward r failed makes = told_fails old.contents mid.contents so_far.toward (λ at is. fails_over call mid new r at sound failed is makes)
+    where
+      told_fails : (first held : Option Contents) → Told first held (λ f h. IsOnTheWay (goal f) old.firm h mid.firm) → ((at : Contents) → held ≡ Some at → FailsOver (device_of call) mid.moment at mid.firm new) → IfSome first (λ f. FailsToward (goal f) (device_of call) new)
+      told_fails None held way fails = tt
+      told_fails (Some f) None way fails = absurd way
+      told_fails (Some f) (Some at) way fails = (mid.moment, at, mid.firm, way.extends, fails at refl)
+
+-- Other words for the failures.
+pub toward_weaker : (goal : Contents → Contents) (old new : BayState) (Q Q' : ℕ → ℕ → Type 0) → ((d m : ℕ) → Q d m → Q' d m) → GoesToward goal old new Q → GoesToward goal old new Q'
+toward_weaker goal old new Q Q' weaker goes = record { toward = goes.toward; goes_on = goes_weaker old new _ _ Q Q' (λ i image since is. is) (λ d m since. weaker d m) goes.goes_on }

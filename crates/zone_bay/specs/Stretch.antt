@@ -55,6 +55,16 @@ pub record IsOnTheWay (goal : Contents) (firm : Lengths) (held : Contents) (firm
 abbrev pub IsToward : (Contents → Contents) → BayState → BayState → Type 0
 IsToward goal old now = Told old.contents now.contents (λ held at. IsOnTheWay (goal held) old.firm at now.firm)
 
+-- Calls led toward the goal: whichever of them fail, a crash since leaves an image of what the goal makes of what was held,
+-- with the firm lengths of then.
+pub record GoesToward (goal : Contents → Contents) (old now : BayState) (Q : ℕ → ℕ → Type 0) : Type 0 where
+  pub toward : IsToward goal old now
+  pub goes_on : GoesOn old now (λ _ image. ImageOf (option_map goal old.contents) old.firm image) Q
+
+-- A call on the device failed on the way to the goal.
+abbrev pub FailsToward : Contents → ℕ → BayState → Type 0
+FailsToward goal device bay = (moment : ℕ) × (at : Contents) × (firm : Lengths) × Extends at goal × FailsOver device moment at firm bay
+
 -- the call leads no further than the goal
 abbrev pub StaysToward : Call → Contents → Contents → Type 0
 StaysToward (Append device zone bytes) goal held = Extends (appended device zone bytes held) goal

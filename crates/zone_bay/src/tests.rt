@@ -1,7 +1,5 @@
-ghost use Rattle.std.specs.Prelude.{◌≡◌, ℕ, ◌+◌, ◌*◌, ◌<◌, ◌≤◌, length, option_map, IfSome, IfErr};
-ghost use Rattle.zone_bay.specs.Contents.{Contents, Lengths, Extends};
-ghost use Rattle.zone_bay.specs.Images.{ImageOf};
-ghost use Rattle.zone_bay.specs.Stretch.{GoesOn, FailsOver};
+ghost use Rattle.std.specs.Prelude.{◌≡◌, ℕ, ◌+◌, ◌*◌, ◌<◌, ◌≤◌, length, IfSome, IfErr};
+ghost use Rattle.zone_bay.specs.Stretch.{GoesToward, FailsToward};
 ghost use Rattle.zone_bay.specs.Testing.{on_both};
 
 use super::*;
@@ -99,13 +97,12 @@ fn append_both<B: Bay>(bay: &mut B, zone: u16, bytes: &[u8]) -> Result<(), u8>
     requires zone_in { zone < (B.state bay.old).shape.zones }
     requires fits { IfSome (B.state bay.old).contents
         (λ held. (d : ℕ) → length (held d zone) + length bytes.now ≤ 512 * (B.state bay.old).shape.blocks) }
-    // A crash since leaves an image of what was held with the bytes on both, and the firm lengths of before.
-    ensures goes_on { GoesOn (B.state bay.old) (B.state bay.new)
-        (λ _ image. ImageOf (option_map (on_both zone bytes.now) (B.state bay.old).contents) (B.state bay.old).firm image)
+    // Whichever call fails, a crash since leaves an image of what was held with the bytes on both, and the firm lengths of
+    // before.
+    ensures goes_toward { GoesToward (on_both zone bytes.now) (B.state bay.old) (B.state bay.new)
         (λ d _. IfErr result (λ device. d ≡ device)) }
-    // The device failed over what was held on the way there.
     ensures failed { IfErr result (λ device. IfSome (B.state bay.old).contents
-        (λ held. (moment : ℕ) × (at : Contents) × (firm : Lengths) × Extends at (on_both zone bytes.now held) × FailsOver device moment at firm (B.state bay.new))) }
+        (λ held. FailsToward (on_both zone bytes.now held) device (B.state bay.new))) }
 {
     if bay.append(0, zone, bytes).is_err() {
         return Err(0);
