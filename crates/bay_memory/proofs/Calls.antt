@@ -1,239 +1,360 @@
--- The clauses of a call, from what its beginning says.
-use Rattle.std.proofs.Common.{IsTrue, ◌↔◌, Bool, true, false, cond, min, ◌&&◌, ◌==◌, ◌≡◌, ◌≢◌, ◌⊎◌, ℕ, ◌+◌, ◌≤◌, List, [], length, take, Option, Some, None, Result, Ok, Err, refl, sym, subst, ◌∙◌, ap, arith, inl, inr}
-use Rattle.std.specs.Result.{IsErr, OnErr}
-use Rattle.std.proofs.lemmas.Bool.{cases_eq, eq-eqb, ne_eqb}
-use Rattle.zone_bay.specs.Bay.{Contents, IsCallOn, BecomesInPart, appended, emptied, blanked}
-use Rattle.zone_bay.specs.Images.{flushed, still_firm}
-use Rattle.zone_bay.specs.Moments.{During, Elapses, TellsFailure}
+-- What a call does, from what it did before its failure was counted.
+use Rattle.std.proofs.Common.{IsTrue, ◌↔◌, Bool, true, false, cond, min, ◌&&◌, ◌==◌, ◌≡◌, ◌≢◌, ◌⊎◌, ℕ, ◌+◌, ◌<◌, ◌≤◌, List, length, take, Option, Some, None, Result, Ok, Err, refl, sym, subst, ◌∙◌, ap, arith, inl, inr}
+use Rattle.std.specs.Prelude.{[], option_map, not}
+use Rattle.std.specs.Result.{is_ok, is_err, IsErr, OnOk, OnErr}
+use Rattle.std.proofs.lemmas.Bool.{cases_eq, eq-eqb, ne_eqb, false≢true}
+use Rattle.std.proofs.lemmas.List.{append-nil, take_all}
 use Rattle.zone_bay.specs.Outside.{counted, last}
-use Rattle.zone_bay.proofs.Images.{append_leaves_any_part, held_is_left}
-use Rattle.bay_memory.specs.Past.{State, Track, Goes, now, with_more, all_gone, all_firm}
-use Rattle.bay_memory.specs.Device.{View, track_in}
-use Rattle.bay_memory.specs.Array.{view_at, track_at, contents_in, firm_in, failed_in, in_zone, in_device, ArrayGoes, KeepsTracks, AllKeepFailures}
-use Rattle.bay_memory.specs.MemoryBay.{bay_views, bay_shape, told, firm_of, faults_of, contents_of, left_of, bay_moment, kept_of, IsAsked, KeepsImage, TakesImage}
-use Rattle.bay_memory.proofs.Failures.{failed_kept, failed_before}
-use Rattle.bay_memory.proofs.Timeline.{elapses_failed, elapses_unchanged, elapses_changed}
-use Rattle.bay_memory.proofs.Takes.{takes_failed, takes_done, nothing_allowed, nothing_appended}
+use Rattle.zone_bay.specs.Contents.{Shape, Contents, Lengths, appended}
+use Rattle.zone_bay.specs.Images.{IsImage, still_firm, Instant, Between, During, moment_of}
+use Rattle.zone_bay.specs.Bay.{BayState, Call, Written, Read, Append, Reset, Flush, Replace, device_of, made_by, part_made_by, firm_after, reads_after, Elapses, TellsFailure, Makes}
+use Rattle.zone_bay.proofs.Images.{same_contents, held_is_left, append_leaves_any_part}
+use Rattle.bay_memory.specs.Past.{State, Track, IsSteady, Goes, now, held_at, with_more, all_gone, all_firm}
+use Rattle.bay_memory.specs.Operation.{done_by}
+use Rattle.bay_memory.specs.Device.{View, track_in, HasFailedAt, NotesFailure, KeepsFailures}
+use Rattle.bay_memory.specs.Array.{view_at, track_at, AllSteady, contents_in, firm_in, failed_in, lost_then, state_after, ArrayGoes, KeepsTracks, AllKeepFailures, NotesFault}
+use Rattle.bay_memory.specs.MemoryBay.{bay_views, bay_shape, bay_moment, reads_of, faults_of, contents_of, firm_of, left_of, state_of, lost_of, listed_calls, asked_of, kept_of, IsAsked, IsDueFor, KeepsImage, TakesImage, KeepsRequests, Begins, MakesInMemory}
+use Rattle.bay_memory.specs.Laws.{counts_image}
+use Rattle.bay_memory.proofs.Results.{of_ok, of_err, is_ok_not, ok_fails}
+use Rattle.bay_memory.proofs.Timeline.{elapses}
 use Rattle.bay_memory.specs.declared.asked.Asked.{Asked}
+use Rattle.bay_memory.specs.Image.{image_shape, image_bytes}
+use Rattle.bay_memory.specs.declared.image.Image.{Image}
 use Rattle.bay_memory.specs.declared.memory_bay.MemoryBay.{MemoryBay}
 
--- a call that failed
-module _ {T E : Type 0} (r : Result T E) (is_err : IsErr r) (old new : MemoryBay) where
-  fails : (P : Result T E → Type 0) → ((e : E) → P (Err e)) → P r
-  fails P each = case r is_err
-    where
-      case : (r : Result T E) → IsErr r → P r
-      case (Ok x) h = absurd (no h)
-        where
-          no : IsErr {T = T} {E = E} (Ok x) → ⊥
-          no h = cc
-      case (Err e) h = each e
+-- two branches that are the same
+same_either : {A : Type 0} (b : Bool) (a : A) → cond b a a ≡ a
+same_either true a = refl
+same_either false a = refl
 
-  pub failed_failure : {U D : Type 0} (s : Result U D) → IsErr s → (device moment : ℕ) (before after : ℕ → ℕ → Type 0) → TellsFailure device moment before after s → TellsFailure device moment before after r
-  failed_failure s s_err device moment before after tells = record {
-    keeps = tells.keeps;
-    told = fails (λ r. OnErr r (after device moment)) (λ e. told s s_err tells.told);
-    nothing_else = λ d m failed. elim (tells.nothing_else d m failed) [
-      | inl was ↦ inl was
-      | inr this ↦ inr (is_err, this.1, this.2)
+-- what an answered call makes of the bytes of each zone
+bytes_after : (call : Call) (held : Contents) (d z : ℕ) (state : State) → state.bytes ≡ held d z → (state_after call d z state).bytes ≡ made_by call held d z
+bytes_after (Written device zone) held d z state is = rw (same_either (d == device) state) is
+bytes_after (Read device zone) held d z state is = rw (same_either (d == device) state) is
+bytes_after (Append device zone bytes) held d z state is = elim (cases_eq d device) [
+  | inl same ↦ elim (cases_eq z zone) [
+    | inl here ↦ rw (eq-eqb d device same, eq-eqb z zone here, is, same, here) refl
+    | inr there ↦ rw (eq-eqb d device same, ne_eqb z zone there) is
+  ]
+  | inr other ↦ rw (ne_eqb d device other) is
+]
+bytes_after (Reset device zone) held d z state is = choice (d == device) (z == zone)
+  where
+    choice : (a b : Bool) → (cond a (cond b (all_gone state) state) state).bytes ≡ cond (a && b) [] (held d z)
+    choice true true = refl
+    choice true false = is
+    choice false b = is
+bytes_after (Flush device) held d z state is = choice (d == device)
+  where
+    choice : (b : Bool) → (cond b (all_firm state) state).bytes ≡ held d z
+    choice true = is
+    choice false = is
+bytes_after (Replace device) held d z state is = choice (d == device)
+  where
+    choice : (b : Bool) → (cond b (all_gone state) state).bytes ≡ cond b [] (held d z)
+    choice true = refl
+    choice false = is
+
+-- and how much of it is firm then
+firm_made : (call : Call) (after : Contents) (firm : Lengths) (d z : ℕ) (state : State) → state.firm ≡ firm d z → state.firm ≤ length state.bytes → (state_after call d z state).bytes ≡ after d z → (state_after call d z state).firm ≡ firm_after call true after firm d z
+firm_made (Written device zone) after firm d z state is within bytes = rw (same_either (d == device) state) is
+firm_made (Read device zone) after firm d z state is within bytes = rw (same_either (d == device) state) is
+firm_made (Append device zone bytes) after firm d z state is within now_bytes = choice (d == device) (z == zone)
+  where
+    choice : (a b : Bool) → (cond a (cond b (with_more bytes state) state) state).firm ≡ firm d z
+    choice true true = is
+    choice true false = is
+    choice false b = is
+firm_made (Reset device zone) after firm d z state is within bytes = choice (d == device) (z == zone) bytes
+  where
+    choice : (a b : Bool) → (cond a (cond b (all_gone state) state) state).bytes ≡ after d z → (cond a (cond b (all_gone state) state) state).firm ≡ min (firm d z) (length (after d z))
+    choice true true bytes = omega (arith, ap length bytes)
+    choice true false bytes = omega (arith, ap length bytes)
+    choice false b bytes = omega (arith, ap length bytes)
+firm_made (Flush device) after firm d z state is within bytes = choice (d == device) bytes
+  where
+    choice : (b : Bool) → (cond b (all_firm state) state).bytes ≡ after d z → (cond b (all_firm state) state).firm ≡ cond b (length (after d z)) (firm d z)
+    choice true bytes = ap length bytes
+    choice false bytes = is
+firm_made (Replace device) after firm d z state is within bytes = choice (d == device) bytes
+  where
+    choice : (b : Bool) → (cond b (all_gone state) state).bytes ≡ after d z → (cond b (all_gone state) state).firm ≡ min (firm d z) (length (after d z))
+    choice true bytes = omega (arith, ap length bytes)
+    choice false bytes = omega (arith, ap length bytes)
+
+-- an append of nothing
+nothing_appended : (held : Contents) (device zone n : ℕ) → appended device zone (take n []) held ≡ held
+nothing_appended held device zone n = same_contents (appended device zone (take n []) held) held each
+  where
+    none : ◌≡◌ {A = List ℕ} (take n []) []
+    none = take_all n [] (omega arith)
+
+    each : (d z : ℕ) → appended device zone (take n []) held d z ≡ held d z
+    each d z = elim (cases_eq d device) [
+      | inl same ↦ elim (cases_eq z zone) [
+        | inl here ↦ rw (eq-eqb d device same, eq-eqb z zone here, same, here, none) (append-nil (held device zone))
+        | inr there ↦ rw (eq-eqb d device same, ne_eqb z zone there) refl
+      ]
+      | inr other ↦ rw (ne_eqb d device other) refl
+    ]
+
+-- nothing of a call that failed
+none_made : (call : Call) (held : Contents) → part_made_by 0 call held ≡ held
+none_made (Written device zone) held = refl
+none_made (Read device zone) held = refl
+none_made (Append device zone bytes) held = nothing_appended held device zone 0
+none_made (Reset device zone) held = refl
+none_made (Flush device) held = refl
+none_made (Replace device) held = refl
+
+still_all_firm : (call : Call) (held : Contents) (firm : Lengths) → ((d z : ℕ) → firm d z ≤ length (held d z)) → firm ≡ firm_after call false held firm
+still_all_firm (Written device zone) held firm within = refl
+still_all_firm (Read device zone) held firm within = refl
+still_all_firm (Append device zone bytes) held firm within = refl
+still_all_firm (Reset device zone) held firm within = let each : (d z : ℕ) → firm d z ≡ still_firm held firm d z = λ d z. omega (arith, within d z) in λ i d z. each d z i
+still_all_firm (Flush device) held firm within = refl
+still_all_firm (Replace device) held firm within = let each : (d z : ℕ) → firm d z ≡ still_firm held firm d z = λ d z. omega (arith, within d z) in λ i d z. each d z i
+
+-- what is told where no zone changes
+contents_kept : (old new : List View) → KeepsTracks old new → contents_in new ≡ contents_in old
+contents_kept old new keeps = λ i d z. ap (λ (tracks : List Track). (now (track_in tracks z)).bytes) (keeps.tracks d) i
+
+firm_kept : (old new : List View) → KeepsTracks old new → firm_in new ≡ firm_in old
+firm_kept old new keeps = λ i d z. ap (λ (tracks : List Track). (now (track_in tracks z)).firm) (keeps.tracks d) i
+
+pub steady_kept : (moment : ℕ) (old new : List View) → KeepsTracks old new → AllSteady moment old → AllSteady moment new
+steady_kept moment old new keeps steady d z = subst (λ (tracks : List Track). IsSteady moment (track_in tracks z)) (sym (keeps.tracks d)) (steady d z)
+
+-- which calls have failed, where none does, and where one does
+failed_kept : (old new : View) (m : ℕ) → KeepsFailures old new → HasFailedAt old m → HasFailedAt new m
+failed_kept old new m keeps failed = rw (keeps.failed, keeps.unnoted) failed
+
+failed_before : (old new : View) (m : ℕ) → KeepsFailures old new → HasFailedAt new m → HasFailedAt old m
+failed_before old new m keeps failed = rw (sym keeps.failed, sym keeps.unnoted) failed
+
+fault_keeps : (device moment : ℕ) (old new : List View) → NotesFault device moment old new → (d m : ℕ) → failed_in old d m → failed_in new d m
+fault_keeps device moment old new fault d m failed = elim (cases_eq d device) [
+  | inl same ↦ subst (λ (n : ℕ). failed_in new n m) (sym same) (fault.noted.keeps m (subst (λ (n : ℕ). failed_in old n m) same failed))
+  | inr other ↦ failed_kept (view_at old d) (view_at new d) m (fault.others d other) failed
+]
+
+fault_only : (device moment : ℕ) (old new : List View) → NotesFault device moment old new → (d m : ℕ) → failed_in new d m → failed_in old d m ⊎ ((d ≡ device) × (moment ≤ m))
+fault_only device moment old new fault d m failed = elim (cases_eq d device) [
+  | inl same ↦ elim (fault.noted.nothing_else m (subst (λ (n : ℕ). failed_in new n m) same failed)) [
+    | inl was ↦ inl (subst (λ (n : ℕ). failed_in old n m) (sym same) was)
+    | inr since ↦ inr (same, since)
+  ]
+  | inr other ↦ inl (failed_before (view_at old d) (view_at new d) m (fault.others d other) failed)
+]
+
+-- the image that is kept is one
+same_image : (old new : MemoryBay) (a b : Contents) → KeepsImage a old new → KeepsImage b old new → a ≡ b
+same_image old new a b is_a is_b = ap (λ (p : Shape × Contents). p.1) (some_same (sym is_a ∙ is_b))
+  where
+    some_same : {x y : Shape × Contents} → ◌≡◌ {A = Option (Shape × Contents)} (Some x) (Some y) → x ≡ y
+    some_same e = cc
+
+not_none : {A : Type 0} (x : A) (o : Option A) → o ≡ Some x → o ≡ None → ⊥
+not_none {A = A} x o some none = absurd (different (sym some ∙ none))
+  where
+    different : ◌≡◌ {A = Option A} (Some x) None → ⊥
+    different e = cc
+
+-- an image that a crash at the call's moment may have left
+abbrev LeftThen : MemoryBay → MemoryBay → Contents → Type 0
+LeftThen old new image = (i : Instant) × (moment_of i ≡ bay_moment old) × left_of new i image
+
+held_allowed : (old new : MemoryBay) → ((i : Instant) (image : Contents) → left_of old i image → left_of new i image) → LeftThen old new (contents_of old)
+held_allowed old new keeps = (Between (bay_moment old), refl, keeps (Between (bay_moment old)) (contents_of old) (counts_image old (contents_of old) (held_is_left (contents_of old) (firm_of old))))
+
+done_allowed : {T E : Type 0} (call : Call) (n : ℕ) (x : T) (old new : MemoryBay) → Elapses {E = E} (made_by call) (state_of old) (state_of new) (Ok x) → LeftThen old new (done_by n call (contents_of old))
+done_allowed (Written device zone) n x old new time = held_allowed old new time.keeps
+done_allowed (Read device zone) n x old new time = held_allowed old new time.keeps
+done_allowed (Append device zone bytes) n x old new time = (During (bay_moment old), refl, time.in_call _ (inr (append_leaves_any_part (contents_of old) (firm_of old) device zone bytes (contents_of old) n old.array.whole.firm_held (held_is_left (contents_of old) (firm_of old)))))
+done_allowed (Reset device zone) n x old new time = held_allowed old new time.keeps
+done_allowed (Flush device) n x old new time = held_allowed old new time.keeps
+done_allowed (Replace device) n x old new time = held_allowed old new time.keeps
+
+-- each call is due to fail at the last moment
+pub due_last : (call : Call) (bay : MemoryBay) → bay_moment bay ≡ last → IsDueFor call bay
+due_last (Written device zone) bay is = inl (inl is)
+due_last (Read device zone) bay is = inl (inl is)
+due_last (Append device zone bytes) bay is = inl (inl is)
+due_last (Reset device zone) bay is = inl (inl is)
+due_last (Flush device) bay is = inl (inl is)
+due_last (Replace device) bay is = inl is
+
+-- a call that is answered
+module _ {T E : Type 0} (call : Call) (due : Bool) (old new : MemoryBay) (r : Result T E) (begins : Begins due call old new r) (answered : is_err r ≡ false) (due_is : IsTrue due ↔ IsDueFor call old) where
+  goes : ArrayGoes (bay_moment old) call (bay_views old) (bay_views new)
+  goes = (of_ok r answered begins.ok).1
+
+  not_due : due ≡ false
+  not_due = (of_ok r answered begins.ok).0
+
+  early : bay_moment old < last
+  early = elim (cases_eq (bay_moment old) last) [
+    | inl same ↦ absurd (false≢true (sym not_due ∙ due_is.1 (due_last call old same)))
+    | inr other ↦ omega (arith, begins.later, begins.no_earlier)
+  ]
+
+  contents_done : contents_of new ≡ made_by call (contents_of old)
+  contents_done = λ i d z. (ap (λ (s : State). s.bytes) (goes.each d z).changed ∙ bytes_after call (contents_of old) d z (now (track_at (bay_views old) d z)) refl) i
+
+  firm_done : firm_of new ≡ firm_after call true (contents_of new) (firm_of old)
+  firm_done = λ i d z. (ap (λ (s : State). s.firm) (goes.each d z).changed ∙ firm_made call (contents_of new) (firm_of old) d z (now (track_at (bay_views old) d z)) refl (old.array.whole.firm_held d z) (ap (λ (s : State). s.bytes) (sym (goes.each d z).changed))) i
+
+  time_done : {U D : Type 0} (x : U) → Elapses {E = D} (made_by call) (state_of old) (state_of new) (Ok x)
+  time_done {U = U} {D = D} x = let r : Result U D = Ok x in elapses old new (λ d z m so_far. (goes.each d z).until m so_far) begins.later begins.no_earlier (made_by call) r (early, contents_done)
+
+  pub makes_done : {U D : Type 0} (x : U) → Makes {E = D} call (state_of old) (state_of new) (Ok x)
+  makes_done x = record {
+    same_shape = begins.shape;
+    later = begins.later;
+    no_earlier = begins.no_earlier;
+    in_time = λ last_one. absurd (omega (arith, early));
+    unchanged = λ last_one. absurd (omega (arith, early));
+    cause = record { keeps = omega (arith, (begins.failures (device_of call)).faults); ok = (begins.failures (device_of call)).faults; err = tt };
+    others = λ d other. (begins.failures d).faults;
+    done = ap Some contents_done;
+    part = tt;
+    firm = firm_done;
+    reads = begins.reads;
+    time = time_done x;
+    failure = record {
+      keeps = λ d m. failed_kept (view_at (bay_views old) d) (view_at (bay_views new) d) m (begins.failures d);
+      told = tt;
+      only = λ d m failed. inl (failed_before (view_at (bay_views old) d) (view_at (bay_views new) d) m (begins.failures d) failed);
+    };
+  }
+
+  pub memory_done : {U D : Type 0} (x : U) → MakesInMemory {E = D} call old new (Ok x)
+  memory_done {U = U} {D = D} x = record {
+    exact = λ is. absurd (false≢true (sym not_due ∙ due_is.1 is));
+    kept = tt;
+    count = tt;
+    listed = begins.listed;
+    lost = begins.lost ∙ ap (λ (b : Bool). lost_then call b (bay_views old)) (is_ok_not r false answered);
+    image = record {
+      not_asked = begins.image.not_asked;
+      no_longer = begins.image.no_longer;
+      done = done;
+      failed = λ asked. tt;
+    };
+    allowed = λ image asked kept. subst (λ (c : Contents). LeftThen old new c) (same_image old new _ image (done asked.0 asked.1 asked.2) kept) (done_allowed call asked.0.bytes x old new time);
+  }
+    where
+      time : Elapses {E = D} (made_by call) (state_of old) (state_of new) (Ok x)
+      time = time_done x
+
+      done : (asked : Asked) → asked_of old ≡ Some asked → asked.call ≡ bay_moment old → KeepsImage (done_by asked.bytes call (contents_of old)) old new
+      done asked is at_it = of_ok r answered (begins.image.done asked is at_it)
+
+-- a call that fails
+module _ {T E : Type 0} (call : Call) (due : Bool) (old mid new : MemoryBay) (r : Result T E) (begins : Begins due call old mid r) (failed : is_err r ≡ true) (due_is : IsTrue due ↔ IsDueFor call old) (fault : NotesFault (device_of call) (bay_moment old) (bay_views mid) (bay_views new)) (shape : bay_shape new ≡ bay_shape mid) (moment : bay_moment new ≡ bay_moment mid) (reads : reads_of new ≡ reads_of mid) (requests : KeepsRequests mid new) where
+  kept : KeepsTracks (bay_views old) (bay_views new)
+  kept =
+      let first = (of_err r failed begins.err).0 in
+      record { count = fault.tracks.count ∙ first.count; tracks = λ d. fault.tracks.tracks d ∙ first.tracks d }
+
+  counted_once : faults_of new (device_of call) ≡ counted (faults_of old (device_of call))
+  counted_once = fault.faults ∙ ap counted (begins.failures (device_of call)).faults
+
+  later_now : bay_moment new ≡ counted (bay_moment old)
+  later_now = moment ∙ begins.later
+
+  no_earlier_now : bay_moment old ≤ bay_moment new
+  no_earlier_now = omega (arith, moment, begins.no_earlier)
+
+  time_failed : {U D : Type 0} (e : D) → Elapses {T = U} (made_by call) (state_of old) (state_of new) (Err e)
+  time_failed {U = U} {D = D} e = let r : Result U D = Err e in elapses old new (λ d z m so_far. ap (λ (tracks : List Track). held_at (track_in tracks z) m) (kept.tracks d)) later_now no_earlier_now (made_by call) r (contents_kept (bay_views old) (bay_views new) kept)
+
+  pub makes_failed : {U D : Type 0} (e : D) → Makes {T = U} call (state_of old) (state_of new) (Err e)
+  makes_failed e = record {
+    same_shape = shape ∙ begins.shape;
+    later = later_now;
+    no_earlier = no_earlier_now;
+    in_time = λ last_one. refl;
+    unchanged = λ last_one. (ap Some (contents_kept (bay_views old) (bay_views new) kept), firm_kept (bay_views old) (bay_views new) kept);
+    cause = record { keeps = omega (arith, fault.no_fewer, (begins.failures (device_of call)).faults); ok = tt; err = λ below. omega (arith, counted_once) };
+    others = λ d other. (fault.others d other).faults ∙ (begins.failures d).faults;
+    done = tt;
+    part = (0, ap Some (contents_kept (bay_views old) (bay_views new) kept ∙ sym (none_made call (contents_of old))));
+    firm = firm_kept (bay_views old) (bay_views new) kept ∙ still_all_firm call (contents_of new) (firm_of old) (λ d z. omega (arith, old.array.whole.firm_held d z, ap (λ (tracks : List Track). length (now (track_in tracks z)).bytes) (kept.tracks d)));
+    reads = reads ∙ begins.reads;
+    time = time_failed e;
+    failure = record {
+      keeps = λ d m was. fault_keeps (device_of call) (bay_moment old) (bay_views mid) (bay_views new) fault d m (failed_kept (view_at (bay_views old) d) (view_at (bay_views mid) d) m (begins.failures d) was);
+      told = fault.noted.told;
+      only = λ d m told. elim (fault_only (device_of call) (bay_moment old) (bay_views mid) (bay_views new) fault d m told) [
+        | inl was ↦ inl (failed_before (view_at (bay_views old) d) (view_at (bay_views mid) d) m (begins.failures d) was)
+        | inr since ↦ inr (refl, since.0, since.1)
+      ];
+    };
+  }
+
+  same_kept : kept_of new ≡ kept_of mid
+  same_kept = ap (λ (o : Option Image). option_map (λ image. (image_shape image, image_bytes image)) o) requests.kept
+
+  pub memory_failed : {U D : Type 0} (e : D) → MakesInMemory {T = U} call old new (Err e)
+  memory_failed {U = U} {D = D} e = record {
+    exact = elim (of_err r failed begins.err).1 [
+      | inl is_due ↦ inl (due_is.0 is_due)
+      | inr (inl needs) ↦ inr (inl needs)
+      | inr (inr none) ↦ inr (inr (none.0, same_kept ∙ none.1))
+    ];
+    kept = (contents_kept (bay_views old) (bay_views new) kept, firm_kept (bay_views old) (bay_views new) kept);
+    count = counted_once;
+    listed = requests.listed ∙ begins.listed;
+    lost = fault.lost ∙ begins.lost ∙ ap (λ (b : Bool). lost_then call b (bay_views old)) (is_ok_not r true failed);
+    image = record {
+      not_asked = λ not. (requests.asked ∙ (begins.image.not_asked not).0, requests.kept ∙ (begins.image.not_asked not).1);
+      no_longer = λ asked. requests.asked ∙ begins.image.no_longer asked;
+      done = λ asked is at_it. tt;
+      failed = given;
+    };
+    allowed = λ image asked is. elim (given asked) [
+      | inl none ↦ absurd (not_none _ _ is none)
+      | inr held ↦ subst (λ (c : Contents). LeftThen old new c) (same_image old new _ image held is) (held_allowed old new time.keeps)
     ];
   }
     where
-      told : {U D : Type 0} {P : Type 0} (s : Result U D) → IsErr s → OnErr s P → P
-      told {U = U} {D = D} (Ok x) h p = absurd (no U D x h)
-        where
-          no : (U D : Type 0) (x : U) → IsErr {T = U} {E = D} (Ok x) → ⊥
-          no U D x h = cc
-      told (Err e) h p = p
+      time : Elapses {T = U} (made_by call) (state_of old) (state_of new) (Err e)
+      time = time_failed e
 
-  module _ (keeps : KeepsTracks (bay_views old) (bay_views new)) (next : bay_moment new ≡ counted (bay_moment old)) (later : bay_moment old ≤ bay_moment new) where
-    pub failed_time : (change : Contents → Contents) → Elapses told firm_of bay_moment left_of change old new r
-    failed_time change = fails (λ r. Elapses told firm_of bay_moment left_of change old new r) (λ e. elapses_failed old new keeps e change next later)
+      given : IsAsked old → (kept_of new ≡ None) ⊎ KeepsImage (contents_of old) old new
+      given asked = elim (of_err r failed (begins.image.failed asked)) [
+        | inl none ↦ inl (same_kept ∙ none)
+        | inr held ↦ inr (same_kept ∙ held)
+      ]
 
-    pub failed_image : (device zone : ℕ) (bytes : List ℕ) → (¬ IsAsked old → (new.asked ≡ old.asked) × (new.kept ≡ old.kept)) → (IsAsked old → new.asked ≡ None) → (IsAsked old → (kept_of new ≡ None) ⊎ KeepsImage (contents_of old) old new) → TakesImage device zone bytes old new r
-    failed_image device zone bytes not_asked no_longer failed = fails (λ r. TakesImage device zone bytes old new r) (λ e. takes_failed device zone bytes old new not_asked no_longer (failed_time (λ held. held)).keeps e failed)
-
--- what is told where no zone changes
-pub contents_kept : (old new : List View) → KeepsTracks old new → contents_in new ≡ contents_in old
-contents_kept old new keeps = λ i d z. ap (λ (tracks : List Track). (now (track_in tracks z)).bytes) (keeps.tracks d) i
-
-pub firm_kept : (old new : List View) → KeepsTracks old new → firm_in new ≡ firm_in old
-firm_kept old new keeps = λ i d z. ap (λ (tracks : List Track). (now (track_in tracks z)).firm) (keeps.tracks d) i
-
-pub told_kept : (old new : List View) → KeepsTracks old new → ◌≡◌ {A = Option Contents} (Some (contents_in new)) (Some (contents_in old))
-told_kept old new keeps = ap Some (contents_kept old new keeps)
-
--- one change after none
-pub goes_after : (moment : ℕ) (change : ℕ → ℕ → State → State) (old mid new : List View) → KeepsTracks old mid → ArrayGoes moment change mid new → ArrayGoes moment change old new
-goes_after moment change old mid new keeps goes = record {
-  count = goes.count ∙ keeps.count;
-  zones = λ d. goes.zones d ∙ ap length (keeps.tracks d);
-  each = λ d z. subst (λ (t : Track). Goes moment (change d z) t (track_at new d z)) (ap (λ (tracks : List Track). track_in tracks z) (keeps.tracks d)) (goes.each d z);
+-- the same failed call with another error
+pub makes_as : {T U E D : Type 0} (call : Call) (old new : BayState) (e : E) (s : Result U D) → IsErr s → Makes {T = T} call old new (Err e) → Makes call old new s
+makes_as call old new e (Ok x) is makes = cc
+makes_as call old new e (Err e') is makes = record {
+  same_shape = makes.same_shape;
+  later = makes.later;
+  no_earlier = makes.no_earlier;
+  in_time = λ last_one. refl;
+  unchanged = makes.unchanged;
+  cause = record { keeps = makes.cause.keeps; ok = tt; err = makes.cause.err };
+  others = makes.others;
+  done = tt;
+  part = makes.part;
+  firm = makes.firm;
+  reads = makes.reads;
+  time = record { keeps = makes.time.keeps; in_call = tt; only = makes.time.only };
+  failure = record {
+    keeps = makes.failure.keeps;
+    told = makes.failure.told;
+    only = λ d m told. elim (makes.failure.only d m told) [ inl was ↦ inl was | inr this ↦ inr (refl, this.1, this.2) ];
+  };
 }
 
--- the moment after a call that was answered
-pub next_of : {T E : Type 0} (x : T) (device : ℕ) (old new : MemoryBay) → IsCallOn {E = E} bay_shape bay_moment faults_of device old new (Ok x) → bay_moment new ≡ bay_moment old + 1
-next_of {T = T} {E = E} x device old new call = omega (arith, call.later, call.no_earlier, not_last)
+-- an answered call that makes nothing of what is held
+pub held_same : {T E : Type 0} (call : Call) (old new : MemoryBay) (r : Result T E) → is_ok r ≡ true → ((held : Contents) → made_by call held ≡ held) → Makes call (state_of old) (state_of new) r → contents_of new ≡ contents_of old
+held_same call old new (Ok x) answered same makes = some_same makes.done ∙ same (contents_of old)
   where
-    ok_fails : IsErr {T = T} {E = E} (Ok x) → ⊥
-    ok_fails h = cc
-
-    not_last : bay_moment old ≢ last
-    not_last at_last = ok_fails (call.in_time at_last)
-
--- the failures told, when a call goes on after its beginning
-pub failure_kept : {T U E D : Type 0} (x : T) (y : U) (device moment : ℕ) (old mid new : List View) → TellsFailure {E = E} device moment (failed_in old) (failed_in mid) (Ok x) → AllKeepFailures mid new → TellsFailure {E = D} device moment (failed_in old) (failed_in new) (Ok y)
-failure_kept {T = T} {E = E} x y device moment old mid new tells keeps = record {
-  keeps = λ d m failed. failed_kept (view_at mid d) (view_at new d) m (keeps d) (tells.keeps d m failed);
-  told = tt;
-  nothing_else = λ d m failed. elim (tells.nothing_else d m (failed_before (view_at mid d) (view_at new d) m (keeps d) failed)) [
-    | inl was ↦ inl was
-    | inr this ↦ absurd (ok_fails this.0)
-  ];
-}
-  where
-    ok_fails : IsErr {T = T} {E = E} (Ok x) → ⊥
-    ok_fails h = cc
-
-pub failure_same : {T U E D : Type 0} (x : T) (y : U) (device moment : ℕ) (old new : List View) → TellsFailure {E = E} device moment (failed_in old) (failed_in new) (Ok x) → TellsFailure {E = D} device moment (failed_in old) (failed_in new) (Ok y)
-failure_same x y device moment old new tells = failure_kept x y device moment old new new tells (λ d. record { faults = refl; failed = refl; unnoted = refl })
-
--- a failure that is told after the beginning
-pub failure_then : {T U E D : Type 0} (x : T) (e : E) (device moment : ℕ) (old mid new : ℕ → ℕ → Type 0) → TellsFailure {E = D} device moment old mid (Ok x) → TellsFailure {T = U} device moment mid new (Err e) → TellsFailure {T = U} device moment old new (Err e)
-failure_then {T = T} {D = D} x e device moment old mid new first then = record {
-  keeps = λ d m failed. then.keeps d m (first.keeps d m failed);
-  told = then.told;
-  nothing_else = λ d m failed. elim (then.nothing_else d m failed) [
-    | inl was ↦ elim (first.nothing_else d m was) [
-      | inl before ↦ inl before
-      | inr this ↦ absurd (ok_fails this.0)
-    ]
-    | inr this ↦ inr this
-  ];
-}
-  where
-    ok_fails : IsErr {T = T} {E = D} (Ok x) → ⊥
-    ok_fails h = cc
-
--- no zone changes twice
-pub keeps_twice : (old mid new : List View) → KeepsTracks old mid → KeepsTracks mid new → KeepsTracks old new
-keeps_twice old mid new first then = record { count = then.count ∙ first.count; tracks = λ d. then.tracks d ∙ first.tracks d }
-
--- no count changed in a beginning that was answered, nor after it
-pub faults_same : {T E : Type 0} (x : T) (device : ℕ) (old mid : MemoryBay) (new : List View) → IsCallOn {E = E} bay_shape bay_moment faults_of device old mid (Ok x) → AllKeepFailures (bay_views mid) new → (λ d. (view_at new d).faults) ≡ faults_of old
-faults_same x device old mid new call keeps = λ i d. each d i
-  where
-    each : (d : ℕ) → (view_at new d).faults ≡ faults_of old d
-    each d = (keeps d).faults ∙ elim (cases_eq d device) [
-      | inl same ↦ subst (λ (n : ℕ). faults_of mid n ≡ faults_of old n) (sym same) call.cause.ok
-      | inr other ↦ call.others d other
-    ]
-
--- a failed append leaves the part of no bytes
-pub none_in_part : (device zone : ℕ) (bytes : List ℕ) (old new : List View) → KeepsTracks old new → BecomesInPart device zone bytes (Some (contents_in old)) (Some (contents_in new))
-none_in_part device zone bytes old new keeps = (0, omega arith, ap Some (contents_kept old new keeps ∙ sym (nothing_appended (contents_in old) device zone 0)))
-
-pub on_err : {T E P : Type 0} (r : Result T E) → P → OnErr r P
-on_err (Ok x) p = tt
-on_err (Err e) p = p
-
--- what a test told
-pub test_true : {P : Type 0} (b : Bool) → IsTrue b ↔ P → P → b ≡ true
-test_true b tells is = tells.1 is
-
-pub test_false : {P : Type 0} (b : Bool) → IsTrue b ↔ P → ¬ P → b ≡ false
-test_false true tells not = absurd (not (tells.0 refl))
-test_false false tells not = refl
-
--- a call that was answered and changed nothing
-module _ {T E : Type 0} (x : T) (old new : MemoryBay) (keeps : KeepsTracks (bay_views old) (bay_views new)) (next : bay_moment new ≡ bay_moment old + 1) (counts : bay_moment new ≡ counted (bay_moment old)) where
-  pub unchanged_time : Elapses {E = E} told firm_of bay_moment left_of (λ held. held) old new (Ok x)
-  unchanged_time = elapses_unchanged old new keeps x counts (omega (arith, next))
-
-  pub unchanged_image : (device zone : ℕ) → (¬ IsAsked old → (new.asked ≡ old.asked) × (new.kept ≡ old.kept)) → (IsAsked old → new.asked ≡ None) → ((asked : Asked) → old.asked ≡ Some asked → asked.call ≡ bay_moment old → KeepsImage (appended device zone (take asked.bytes []) (contents_of old)) old new) → TakesImage {E = E} device zone [] old new (Ok x)
-  unchanged_image device zone not_asked no_longer done = takes_done device zone [] old new not_asked no_longer unchanged_time.keeps x done (nothing_allowed device zone old new unchanged_time.keeps)
-
--- a call that was answered and changed zones
-module _ {T E : Type 0} (x : T) (old new : MemoryBay) (zones : ℕ → ℕ → State → State) (goes : ArrayGoes (bay_moment old) zones (bay_views old) (bay_views new)) (next : bay_moment new ≡ bay_moment old + 1) (change : Contents → Contents) (is : (d z : ℕ) → (zones d z (now (track_at (bay_views old) d z))).bytes ≡ change (contents_of old) d z) where
-  pub changed_time : Elapses {E = E} told firm_of bay_moment left_of change old new (Ok x)
-  changed_time = elapses_changed old new zones goes next change is x
-
-  pub changed_image : (device zone : ℕ) → (¬ IsAsked old → (new.asked ≡ old.asked) × (new.kept ≡ old.kept)) → (IsAsked old → new.asked ≡ None) → ((asked : Asked) → old.asked ≡ Some asked → asked.call ≡ bay_moment old → KeepsImage (appended device zone (take asked.bytes []) (contents_of old)) old new) → TakesImage {E = E} device zone [] old new (Ok x)
-  changed_image device zone not_asked no_longer done = takes_done device zone [] old new not_asked no_longer changed_time.keeps x done (nothing_allowed device zone old new changed_time.keeps)
-
--- what is told where zones change
-pub told_changed : (moment : ℕ) (old new : List View) (zones : ℕ → ℕ → State → State) → ArrayGoes moment zones old new → (change : Contents → Contents) → ((d z : ℕ) → (zones d z (now (track_at old d z))).bytes ≡ change (contents_in old) d z) → ◌≡◌ {A = Option Contents} (Some (contents_in new)) (Some (change (contents_in old)))
-told_changed moment old new zones goes change is = ap Some (let each : contents_in new ≡ change (contents_in old) = λ i d z. (ap (λ (s : State). s.bytes) (goes.each d z).changed ∙ is d z) i in each)
-
-pub firm_changed : (moment : ℕ) (old new : List View) (zones : ℕ → ℕ → State → State) → ArrayGoes moment zones old new → (firm : ℕ → ℕ → ℕ) → ((d z : ℕ) → (zones d z (now (track_at old d z))).firm ≡ firm d z) → firm_in new ≡ firm
-firm_changed moment old new zones goes firm is = λ i d z. (ap (λ (s : State). s.firm) (goes.each d z).changed ∙ is d z) i
-
--- what each change makes of bytes and firm lengths
-module _ (views : List View) (device : ℕ) where
-  pub more_bytes : (zone : ℕ) (bytes : List ℕ) (d z : ℕ) → (in_zone device zone (with_more bytes) d z (now (track_at views d z))).bytes ≡ appended device zone bytes (contents_in views) d z
-  more_bytes zone bytes d z = elim (cases_eq d device) [
-    | inl same ↦ elim (cases_eq z zone) [
-      | inl here ↦ rw (eq-eqb d device same, eq-eqb z zone here, same, here) refl
-      | inr there ↦ rw (eq-eqb d device same, ne_eqb z zone there) refl
-    ]
-    | inr other ↦ rw (ne_eqb d device other) refl
-  ]
-
-  pub more_firm : (zone : ℕ) (bytes : List ℕ) (d z : ℕ) → (in_zone device zone (with_more bytes) d z (now (track_at views d z))).firm ≡ firm_in views d z
-  more_firm zone bytes d z = choice ((d == device) && (z == zone))
-    where
-      choice : (b : Bool) → (cond b (with_more bytes (now (track_at views d z))) (now (track_at views d z))).firm ≡ firm_in views d z
-      choice true = refl
-      choice false = refl
-
-  pub gone_bytes : (zone d z : ℕ) → (in_zone device zone all_gone d z (now (track_at views d z))).bytes ≡ emptied device zone (contents_in views) d z
-  gone_bytes zone d z = choice ((d == device) && (z == zone))
-    where
-      choice : (b : Bool) → (cond b (all_gone (now (track_at views d z))) (now (track_at views d z))).bytes ≡ cond b [] (contents_in views d z)
-      choice true = refl
-      choice false = refl
-
-  pub firm_bytes : (d z : ℕ) → (in_device device all_firm d z (now (track_at views d z))).bytes ≡ contents_in views d z
-  firm_bytes d z = choice (d == device)
-    where
-      choice : (b : Bool) → (cond b (all_firm (now (track_at views d z))) (now (track_at views d z))).bytes ≡ contents_in views d z
-      choice true = refl
-      choice false = refl
-
-  pub firm_lengths : (d z : ℕ) → (in_device device all_firm d z (now (track_at views d z))).firm ≡ flushed device (contents_in views) (firm_in views) d z
-  firm_lengths d z = choice (d == device)
-    where
-      choice : (b : Bool) → (cond b (all_firm (now (track_at views d z))) (now (track_at views d z))).firm ≡ cond b (length (contents_in views d z)) (firm_in views d z)
-      choice true = refl
-      choice false = refl
-
-  pub replaced_bytes : (d z : ℕ) → (in_device device all_gone d z (now (track_at views d z))).bytes ≡ blanked device (contents_in views) d z
-  replaced_bytes d z = choice (d == device)
-    where
-      choice : (b : Bool) → (cond b (all_gone (now (track_at views d z))) (now (track_at views d z))).bytes ≡ cond b [] (contents_in views d z)
-      choice true = refl
-      choice false = refl
-
--- Where zones are emptied, what was firm is firm as far as it is still held.
-pub still_firm_changed : (moment : ℕ) (old new : List View) (zones : ℕ → ℕ → State → State) → ArrayGoes moment zones old new → ((d z : ℕ) (s : State) → s.firm ≤ length s.bytes → (zones d z s).firm ≡ min s.firm (length (zones d z s).bytes)) → ((d z : ℕ) → firm_in old d z ≤ length (contents_in old d z)) → firm_in new ≡ still_firm (contents_in new) (firm_in old)
-still_firm_changed moment old new zones goes is within = λ i d z. each d z i
-  where
-    each : (d z : ℕ) → firm_in new d z ≡ min (firm_in old d z) (length (contents_in new d z))
-    each d z = ap (λ (s : State). s.firm) (goes.each d z).changed ∙ is d z (now (track_at old d z)) (within d z) ∙ ap (λ (s : State). min (firm_in old d z) (length s.bytes)) (sym (goes.each d z).changed)
-
-pub gone_firm : (b : Bool) (s : State) → s.firm ≤ length s.bytes → (cond b (all_gone s) s).firm ≡ min s.firm (length (cond b (all_gone s) s).bytes)
-gone_firm true s within = omega arith
-gone_firm false s within = omega arith
-
-pub still_firm_kept : (old new : List View) → KeepsTracks old new → ((d z : ℕ) → firm_in old d z ≤ length (contents_in old d z)) → firm_in new ≡ still_firm (contents_in new) (firm_in old)
-still_firm_kept old new keeps within = λ i d z. each d z i
-  where
-    each : (d z : ℕ) → firm_in new d z ≡ min (firm_in old d z) (length (contents_in new d z))
-    each d z =
-        let same_firm : firm_in new d z ≡ firm_in old d z = ap (λ (tracks : List Track). (now (track_in tracks z)).firm) (keeps.tracks d) in
-        let same_length : length (contents_in new d z) ≡ length (contents_in old d z) = ap (λ (tracks : List Track). length (now (track_in tracks z)).bytes) (keeps.tracks d) in
-        omega (arith, same_firm, same_length, within d z)
-
--- the image of an append that was answered
-pub appended_image : {T E : Type 0} (x : T) (device zone : ℕ) (bytes : List ℕ) (old new : MemoryBay) → Elapses {E = E} told firm_of bay_moment left_of (appended device zone bytes) old new (Ok x) → (¬ IsAsked old → (new.asked ≡ old.asked) × (new.kept ≡ old.kept)) → (IsAsked old → new.asked ≡ None) → ((asked : Asked) → old.asked ≡ Some asked → asked.call ≡ bay_moment old → KeepsImage (appended device zone (take asked.bytes bytes) (contents_of old)) old new) → TakesImage {E = E} device zone bytes old new (Ok x)
-appended_image x device zone bytes old new elapses not_asked no_longer done = takes_done device zone bytes old new not_asked no_longer elapses.keeps x done (λ n. (During (bay_moment old), refl, elapses.in_call _ (inr (append_leaves_any_part (contents_of old) (firm_of old) device zone bytes (contents_of old) n old.array.whole.firm_held (held_is_left (contents_of old) (firm_of old))))))
+    some_same : {x y : Contents} → ◌≡◌ {A = Option Contents} (Some x) (Some y) → x ≡ y
+    some_same e = cc
+held_same call old new (Err e) answered same makes = cc

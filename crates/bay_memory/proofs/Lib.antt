@@ -1,9 +1,9 @@
+pub mod Begins
 pub mod Calls
 pub mod Copies
 pub mod Devices
-pub mod Failures
 pub mod Kept
 pub mod Past
-pub mod Takes
+pub mod Results
 pub mod Timeline
 pub mod Zones

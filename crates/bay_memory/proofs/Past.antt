@@ -24,11 +24,6 @@ since_changed [] was moment m steady is later (suc i) d within = absurd (omega a
 since_changed (w ∷ ws) was moment m steady is later zero d within = let h : w.moment < moment = steady 0 d (omega arith) in omega arith
 since_changed (w ∷ ws) was moment m steady is later (suc i) d within = since_changed ws was moment m (λ j e h. steady (suc j) e (omega arith)) is later i d (omega arith)
 
--- a note for which there was room
-pub pushed : {T E : Type 0} (r : Result T E) (new with_it without : List Was) → new ≡ cond (is_ok r) with_it without → IsOk r → new ≡ with_it
-pushed (Ok x) new with_it without is ok = is
-pushed (Err e) new with_it without is ok = cc
-
 pub now_with_more : (ever ever_now more : List ℕ) (start firm : ℕ) → ever_now ≡ ever ++ more → start ≤ length ever → let before : State = record { bytes = drop start ever; firm = firm } in let after : State = record { bytes = drop start ever_now; firm = firm } in after ≡ with_more more before
 now_with_more ever ever_now more start firm is within = ap (λ (l : List ℕ). let s : State = record { bytes = l; firm = firm } in s) (ap (λ (l : List ℕ). drop start l) is ∙ drop-append-le start ever more within)
 

@@ -1,11 +1,15 @@
 -- A change of one zone, as a change of the tracks of its device.
-use Rattle.std.proofs.Common.{Bool, true, false, ◌≡◌, ℕ, ◌+◌, ◌<◌, ◌≤◌, ◌==◌, List, length, get_or, set, map, cond, refl, sym, subst, ◌∙◌, ap, arith, inl, inr}
+use Rattle.std.proofs.Common.{Result, Ok, Bool, true, false, ◌≡◌, ℕ, ◌+◌, ◌<◌, ◌≤◌, ◌==◌, List, length, get_or, set, map, cond, refl, sym, subst, ◌∙◌, ap, arith, inl, inr}
+use Rattle.std.specs.Result.{OnOk, OnErr}
 use Rattle.std.proofs.lemmas.List.{get_or-set_same, get_or-set_other, get_or-map, map-set, set-get_or, length-map, length-set, get_or_past}
+use Rattle.std.proofs.lemmas.Result.{on_ok_weaker, on_err_weaker}
 use Rattle.std.proofs.lemmas.Bool.{cases_eq, cases_lt, eq-eqb, ne_eqb}
+use Rattle.zone_bay.specs.Bay.{Call, Append, Reset}
+use Rattle.bay_memory.specs.declared.device.Device.{Device}
 use Rattle.bay_memory.specs.declared.zone.Zone.{Zone}
-use Rattle.bay_memory.specs.Past.{State, Track, IsSteady, Goes, blank_track}
+use Rattle.bay_memory.specs.Past.{State, Track, IsSteady, Goes, with_more, all_gone, blank_track}
 use Rattle.bay_memory.specs.Zone.{track_of}
-use Rattle.bay_memory.specs.Device.{track_in, AreSteady, at_zone, ZonesGo}
+use Rattle.bay_memory.specs.Device.{View, view_of, track_in, AreSteady, ZonesGo, DeviceMakes}
 
 -- what stands at a place of a list after a write at a place
 pub set_read : {A : Type 0} (l : List A) (i : ℕ) (a : A) (j : ℕ) (d : A) → i < length l → get_or (set l i a) j d ≡ cond (j == i) a (get_or l j d)
@@ -20,6 +24,10 @@ choice_true {A = A} b f g is = ap {B = A → A} (λ b a. cond b (f a) (g a)) is
 
 pub choice_false : {A : Type 0} (b : Bool) (f g : A → A) → b ≡ false → (λ a. cond b (f a) (g a)) ≡ g
 choice_false {A = A} b f g is = ap {B = A → A} (λ b a. cond b (f a) (g a)) is
+
+-- a change of one zone alone
+abbrev pub at_zone : ℕ → (State → State) → ℕ → State → State
+at_zone zone change z state = cond (z == zone) (change state) state
 
 -- a zone of which nothing is changed
 pub goes_unchanged : (moment : ℕ) (track : Track) → IsSteady moment track → Goes moment (λ state. state) track track
@@ -49,6 +57,31 @@ module _ (zones : List Zone) (z : ℕ) (old : Zone) (in_range : z < length (map 
 
   pub track_steady : (moment : ℕ) → AreSteady moment (map track_of zones) → IsSteady moment (track_of old)
   track_steady moment steady = subst (λ (t : Track). IsSteady moment t) track_read (steady z)
+
+-- a call on one zone of a device
+module _ (device : Device) (z : ℕ) (old : Zone) (in_range : z < length (map track_of device.zones.items)) (is : old ≡ get_or device.zones.items z old) (moment : ℕ) (steady : AreSteady moment (map track_of device.zones.items)) (zone : ℕ) (here : z ≡ zone) (new : Zone) (call : Call) where
+  -- the device with that zone
+  abbrev after : View
+  after = record (view_of device) { tracks = map track_of (set device.zones.items z new) }
+
+  goes_there : (change : State → State) → Goes moment change (track_of old) (track_of new) → ZonesGo moment (at_zone zone change) (map track_of device.zones.items) (map track_of (set device.zones.items z new))
+  goes_there change goes = subst (λ (n : ℕ). ZonesGo moment (at_zone n change) (map track_of device.zones.items) (map track_of (set device.zones.items z new))) here (tracks_go device.zones.items z old in_range is new moment change steady goes)
+
+  pub append_made : {T E : Type 0} (r : Result T E) (d : ℕ) (bytes : List ℕ) → call ≡ Append d zone bytes → OnOk r (Goes moment (with_more bytes) (track_of old) (track_of new)) → OnErr r (track_of new ≡ track_of old) → DeviceMakes moment call (view_of device) after r
+  append_made r d bytes is_append ok err = rw is_append (record {
+    ok = on_ok_weaker r (goes_there (with_more bytes)) ok;
+    err = on_err_weaker r (λ same. (tracks_kept device.zones.items z old in_range is new same, tt)) err;
+    failures = record { faults = refl; failed = refl; unnoted = refl };
+    lost = refl;
+  })
+
+  pub reset_made : {T E : Type 0} (x : T) (d : ℕ) → call ≡ Reset d zone → Goes moment all_gone (track_of old) (track_of new) → DeviceMakes {E = E} moment call (view_of device) after (Ok x)
+  reset_made x d is_reset goes = rw is_reset (record {
+    ok = goes_there all_gone goes;
+    err = tt;
+    failures = record { faults = refl; failed = refl; unnoted = refl };
+    lost = refl;
+  })
 
 -- one more zone of all is changed
 module _ (moment index : ℕ) (change : State → State) (first zones : List Zone) (old new : Zone) (count : length zones ≡ length first) (in_range : index < length zones) (is : old ≡ get_or zones index old) (changed : (z : ℕ) → z < index → Goes moment change (track_in (map track_of first) z) (track_in (map track_of zones) z)) (rest : (z : ℕ) → index ≤ z → track_in (map track_of zones) z ≡ track_in (map track_of first) z) (now_goes : Goes moment change (track_of (get_or zones index old)) (track_of new)) where

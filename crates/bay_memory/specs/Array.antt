@@ -1,9 +1,10 @@
--- What the devices of an array tell.
-use Rattle.std.specs.Prelude.{◌≡◌, ℕ, ◌*◌, ◌<◌, ◌≤◌, ◌&&◌, ◌==◌, Bool, List, [], length, slice_index_or, if◌then◌else◌}
-use Rattle.zone_bay.specs.Bay.{Contents}
-use Rattle.zone_bay.specs.Images.{Lengths}
+-- What the devices of an array tell, and what a call does to that.
+use Rattle.std.specs.Prelude.{◌≡◌, ◌≢◌, ℕ, ◌*◌, ◌<◌, ◌≤◌, ◌==◌, Bool, List, [], length, slice_index_or, Result, is_ok, OnOk, OnErr, if◌then◌else◌}
+use Rattle.zone_bay.specs.Outside.{counted}
+use Rattle.zone_bay.specs.Contents.{Contents, Lengths}
+use Rattle.zone_bay.specs.Bay.{Call, device_of}
 use Rattle.bay_memory.specs.Past.{State, Track, IsSteady, Goes, now}
-use Rattle.bay_memory.specs.Device.{View, view_with, track_in, HasFailedAt, KeepsFailures}
+use Rattle.bay_memory.specs.Device.{View, view_with, track_in, zone_after, lost_after, NeedsMemory, HasFailedAt, NotesFailure, KeepsFailures}
 
 abbrev pub view_at : List View → ℕ → View
 view_at views device = slice_index_or views device (view_with [])
@@ -27,18 +28,15 @@ pub record IsWhole (zones blocks : ℕ) (views : List View) : Type 0 where
 abbrev pub AllSteady : ℕ → List View → Type 0
 AllSteady moment views = (d z : ℕ) → IsSteady moment (track_at views d z)
 
--- a change of one zone, or of each zone of a device
-abbrev pub in_zone : ℕ → ℕ → (State → State) → ℕ → ℕ → State → State
-in_zone device zone change d z state = if (d == device) && (z == zone) then change state else state
-
-abbrev pub in_device : ℕ → (State → State) → ℕ → ℕ → State → State
-in_device device change d z state = if d == device then change state else state
+-- what an answered call makes of each zone
+abbrev pub state_after : Call → ℕ → ℕ → State → State
+state_after call d z state = if d == device_of call then zone_after call z state else state
 
 -- a call made at the moment changes each zone in its way
-pub record ArrayGoes (moment : ℕ) (change : ℕ → ℕ → State → State) (old new : List View) : Type 0 where
+pub record ArrayGoes (moment : ℕ) (call : Call) (old new : List View) : Type 0 where
   pub count : length new ≡ length old
   pub zones : (d : ℕ) → length (view_at new d).tracks ≡ length (view_at old d).tracks
-  pub each : (d z : ℕ) → Goes moment (change d z) (track_at old d z) (track_at new d z)
+  pub each : (d z : ℕ) → Goes moment (state_after call d z) (track_at old d z) (track_at new d z)
 
 -- no zone changes
 pub record KeepsTracks (old new : List View) : Type 0 where
@@ -58,6 +56,26 @@ lost_in views device = (view_at views device).lost
 
 abbrev pub with_lost : ℕ → Bool → List View → ℕ → Bool
 with_lost device lost views d = if d == device then lost else lost_in views d
+
+-- which devices are lost after a call
+abbrev pub lost_then : Call → Bool → List View → ℕ → Bool
+lost_then call answered views d = lost_after call answered d (lost_in views d)
+
+-- a call that is made at the moment
+pub record ArrayMakes {T E : Type 0} (moment : ℕ) (call : Call) (old new : List View) (result : Result T E) : Type 0 where
+  pub ok : OnOk result (ArrayGoes moment call old new)
+  pub err : OnErr result (KeepsTracks old new × NeedsMemory call)
+  pub failures : AllKeepFailures old new
+  pub lost : lost_in new ≡ lost_then call (is_ok result) old
+
+-- A call on the device failed at the moment: that is counted and noted, and no zone changes.
+pub record NotesFault (device moment : ℕ) (old new : List View) : Type 0 where
+  pub tracks : KeepsTracks old new
+  pub faults : (view_at new device).faults ≡ counted (view_at old device).faults
+  pub no_fewer : (view_at old device).faults ≤ (view_at new device).faults
+  pub noted : NotesFailure moment (view_at old device) (view_at new device)
+  pub others : (d : ℕ) → d ≢ device → KeepsFailures (view_at old d) (view_at new d)
+  pub lost : lost_in new ≡ lost_in old
 
 -- no call was made on any device, and all that its zones hold they have held from the start, firm
 pub record AreFresh (views : List View) : Type 0 where

@@ -1,5 +1,5 @@
 -- What an image tells.
-use Rattle.zone_bay.specs.Bay.{Contents, Shape}
+use Rattle.zone_bay.specs.Contents.{Contents, Shape}
 use Rattle.bay_memory.specs.declared.image.Image.{Image}
 use Rattle.bay_memory.specs.Array.{contents_in}
 use Rattle.bay_memory.specs.Views.{views_of, shape_of}

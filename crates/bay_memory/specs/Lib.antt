@@ -5,6 +5,7 @@ pub mod Image
 pub mod Keep
 pub mod Laws
 pub mod MemoryBay
+pub mod Operation
 pub mod Past
 pub mod Views
 pub mod Zone

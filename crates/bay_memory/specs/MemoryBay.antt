@@ -1,12 +1,13 @@
--- What a bay in memory tells, and which of its calls fail.
-use Rattle.std.specs.Prelude.{◌≡◌, ◌≢◌, ◌⊎◌, ℕ, ◌+◌, ◌<◌, ◌≤◌, Bool, false, true, List, [], Contains, take, Option, None, Some, option_map, Result, MatchResult, OnOk, OnErr}
-use Rattle.zone_bay.specs.Bay.{Contents, Shape, appended}
-use Rattle.zone_bay.specs.Images.{Lengths, IsImage}
-use Rattle.zone_bay.specs.Moments.{Instant, Between, During, moment_of}
+-- What a bay in memory tells, and what its calls do beside what those of any bay do.
+use Rattle.std.specs.Prelude.{◌≡◌, ◌⊎◌, ℕ, ◌+◌, ◌<◌, ◌≤◌, Bool, false, true, List, [], Contains, Option, None, Some, option_map, Result, MatchResult, is_ok, OnOk, OnErr}
 use Rattle.zone_bay.specs.Outside.{last, counted}
+use Rattle.zone_bay.specs.Contents.{Shape, Contents, Lengths}
+use Rattle.zone_bay.specs.Images.{IsImage, Instant, Between, During, moment_of}
+use Rattle.zone_bay.specs.Bay.{BayState, Call, Replace, device_of, reads_after}
 use Rattle.bay_memory.specs.Past.{held_at}
-use Rattle.bay_memory.specs.Device.{View, NotesFailure, KeepsFailures}
-use Rattle.bay_memory.specs.Array.{view_at, track_at, contents_in, firm_in, failed_in, lost_in, KeepsTracks}
+use Rattle.bay_memory.specs.Operation.{done_by}
+use Rattle.bay_memory.specs.Device.{View, NeedsMemory}
+use Rattle.bay_memory.specs.Array.{view_at, track_at, contents_in, firm_in, failed_in, lost_in, lost_then, ArrayGoes, KeepsTracks, AllKeepFailures}
 use Rattle.bay_memory.specs.Views.{views_of, shape_of}
 use Rattle.bay_memory.specs.Image.{image_shape, image_bytes}
 use Rattle.bay_memory.specs.declared.asked.Asked.{Asked}
@@ -21,9 +22,6 @@ bay_shape bay = shape_of bay.array
 
 abbrev pub contents_of : MemoryBay → Contents
 contents_of bay = contents_in (bay_views bay)
-
-abbrev pub told : MemoryBay → Option Contents
-told bay = Some (contents_of bay)
 
 abbrev pub firm_of : MemoryBay → Lengths
 firm_of bay = firm_in (bay_views bay)
@@ -63,6 +61,19 @@ left_in views moment (During m) image = (m < moment) × (IsImage (contents_then 
 abbrev pub left_of : MemoryBay → Instant → Contents → Type 0
 left_of bay = left_in (bay_views bay) bay.moment
 
+-- all that it tells as a bay
+abbrev pub state_of : MemoryBay → BayState
+state_of bay = record {
+  shape = bay_shape bay;
+  contents = Some (contents_of bay);
+  firm = firm_of bay;
+  left = left_of bay;
+  faults = faults_of bay;
+  failed = failed_of bay;
+  moment = bay.moment;
+  reads = bay.reads;
+}
+
 -- the call whose image is asked for, and the image that is kept
 abbrev pub asked_of : MemoryBay → Option Asked
 asked_of bay = bay.asked
@@ -78,13 +89,14 @@ IsDue bay = (bay_moment bay ≡ last) ⊎ Contains (listed_calls bay) (bay_momen
 abbrev pub IsDueOn : ℕ → MemoryBay → Type 0
 IsDueOn device bay = IsDue bay ⊎ (lost_of bay device ≡ true)
 
+-- A lost device can be replaced.
+abbrev pub IsDueFor : Call → MemoryBay → Type 0
+IsDueFor (Replace device) bay = IsDue bay
+IsDueFor call bay = IsDueOn (device_of call) bay
+
 -- the image of the call that is made next is asked for
 abbrev pub IsAsked : MemoryBay → Type 0
 IsAsked bay = (asked : Asked) × (asked_of bay ≡ Some asked) × (asked.call ≡ bay_moment bay)
-
--- The call failed where it was to, and else only where an image is asked for.
-abbrev pub FailsIf : {T E : Type 0} → Type 0 → MemoryBay → Result T E → Type 0
-FailsIf due bay result = MatchResult result (λ _. ¬ due) (λ _. due ⊎ IsAsked bay)
 
 -- of the image that is kept, its shape and the bytes of each zone
 abbrev pub kept_of : MemoryBay → Option (Shape × Contents)
@@ -93,14 +105,42 @@ kept_of bay = option_map (λ image. (image_shape image, image_bytes image)) (sto
 abbrev pub KeepsImage : Contents → MemoryBay → MemoryBay → Type 0
 KeepsImage image old new = kept_of new ≡ Some (bay_shape old, image)
 
--- A call whose image is asked for keeps it: where it is answered, all that was held and so many bytes of what it
--- appends; where it fails, all that was held, or none. Any other call leaves that as it was.
-pub record TakesImage {T E : Type 0} (device zone : ℕ) (bytes : List ℕ) (old new : MemoryBay) (result : Result T E) : Type 0 where
+-- no memory is found for the bytes of an append, or for an image, of which none is kept then
+abbrev pub FindsNoMemory : Call → MemoryBay → MemoryBay → Type 0
+FindsNoMemory call old new = NeedsMemory call ⊎ (IsAsked old × (kept_of new ≡ None))
+
+-- A call whose image is asked for keeps it: where it is answered, what is held when so many bytes are done; where it
+-- fails, all that was held, or none. Any other call leaves that as it was.
+pub record TakesImage {T E : Type 0} (done_at : ℕ → Contents → Contents) (old new : MemoryBay) (result : Result T E) : Type 0 where
   pub not_asked : ¬ IsAsked old → (asked_of new ≡ asked_of old) × (stored_of new ≡ stored_of old)
   pub no_longer : IsAsked old → asked_of new ≡ None
-  pub done : (asked : Asked) → asked_of old ≡ Some asked → asked.call ≡ bay_moment old → OnOk result (KeepsImage (appended device zone (take asked.bytes bytes) (contents_of old)) old new)
+  pub done : (asked : Asked) → asked_of old ≡ Some asked → asked.call ≡ bay_moment old → OnOk result (KeepsImage (done_at asked.bytes (contents_of old)) old new)
   pub failed : IsAsked old → OnErr result ((kept_of new ≡ None) ⊎ KeepsImage (contents_of old) old new)
-  -- it is one that a crash at that moment may leave
+
+-- What a call has done before its failure is counted.
+pub record Begins {T E : Type 0} (due : Bool) (call : Call) (old new : MemoryBay) (result : Result T E) : Type 0 where
+  pub shape : bay_shape new ≡ bay_shape old
+  pub later : bay_moment new ≡ counted (bay_moment old)
+  pub no_earlier : bay_moment old ≤ bay_moment new
+  pub reads : reads_of new ≡ reads_after call (state_of old)
+  pub listed : listed_calls new ≡ listed_calls old
+  pub ok : OnOk result ((due ≡ false) × ArrayGoes (bay_moment old) call (bay_views old) (bay_views new))
+  pub err : OnErr result (KeepsTracks (bay_views old) (bay_views new) × ((due ≡ true) ⊎ FindsNoMemory call old new))
+  pub failures : AllKeepFailures (bay_views old) (bay_views new)
+  pub lost : lost_of new ≡ lost_then call (is_ok result) (bay_views old)
+  pub image : TakesImage (λ n. done_by n call) old new result
+
+-- what a call does beside what it does to any bay
+pub record MakesInMemory {T E : Type 0} (call : Call) (old new : MemoryBay) (result : Result T E) : Type 0 where
+  -- it fails where it is due to, and else only for want of memory
+  pub exact : MatchResult result (λ _. ¬ IsDueFor call old) (λ _. IsDueFor call old ⊎ FindsNoMemory call old new)
+  -- a failed call changes nothing that is held, and is counted once
+  pub kept : OnErr result ((contents_of new ≡ contents_of old) × (firm_of new ≡ firm_of old))
+  pub count : OnErr result (faults_of new (device_of call) ≡ counted (faults_of old (device_of call)))
+  pub listed : listed_calls new ≡ listed_calls old
+  pub lost : lost_of new ≡ lost_then call (is_ok result) (bay_views old)
+  pub image : TakesImage (λ n. done_by n call) old new result
+  -- the image that it keeps is one that a crash at that moment may leave
   pub allowed : (image : Contents) → IsAsked old → KeepsImage image old new → (i : Instant) × (moment_of i ≡ bay_moment old) × left_of new i image
 
 -- no call was made, none is to fail, and no image is asked for
@@ -119,18 +159,6 @@ pub record IsBlank (devices zones blocks : ℕ) (bay : MemoryBay) : Type 0 where
   pub shape : bay_shape bay ≡ record { devices = devices; zones = zones; blocks = blocks }
   pub contents : contents_of bay ≡ (λ _ _. [])
   pub new : IsNew bay
-
--- A call on the device failed at the moment: that is counted and noted, and no zone changes.
-pub record NotesFault (device moment : ℕ) (old new : MemoryBay) : Type 0 where
-  pub tracks : KeepsTracks (bay_views old) (bay_views new)
-  pub shape : bay_shape new ≡ bay_shape old
-  pub faults : faults_of new device ≡ counted (faults_of old device)
-  pub no_fewer : faults_of old device ≤ faults_of new device
-  pub noted : NotesFailure moment (view_at (bay_views old) device) (view_at (bay_views new) device)
-  pub others : (d : ℕ) → d ≢ device → KeepsFailures (view_at (bay_views old) d) (view_at (bay_views new) d)
-  pub lost : lost_of new ≡ lost_of old
-  pub reads : reads_of new ≡ reads_of old
-  pub listed : listed_calls new ≡ listed_calls old
 
 -- what is held and was held, what failed and what is lost, and the calls made
 pub record KeepsArray (old new : MemoryBay) : Type 0 where

@@ -1,5 +1,7 @@
 -- What a zone holds, and what it held at each moment.
 use Rattle.std.specs.Prelude.{◌≡◌, ℕ, ◌<◌, ◌≤◌, List, [], ◌∷◌, ◌++◌, length, take, drop, nat_lt, if◌then◌else◌, slice_index_or}
+use Rattle.bay_memory.specs.declared.change.Change.{Change}
+use Rattle.bay_memory.specs.declared.change.Change.TheVariants.{Flush, Reset}
 use Rattle.bay_memory.specs.declared.was.Was.{Was}
 
 -- what a zone holds: bytes, of which so many are firm
@@ -19,6 +21,10 @@ all_gone state = blank
 
 abbrev pub all_firm : State → State
 all_firm state = record { bytes = state.bytes; firm = length state.bytes }
+
+abbrev pub changed_by : Change → State → State
+changed_by Flush = all_firm
+changed_by Reset = all_gone
 
 -- a part of all the bytes that the zone ever held
 abbrev pub state_then : List ℕ → Was → State

@@ -1,5 +1,6 @@
+-- What an array tells.
 use Rattle.std.specs.Prelude.{List, map, length}
-use Rattle.zone_bay.specs.Bay.{Shape}
+use Rattle.zone_bay.specs.Contents.{Shape}
 use Rattle.bay_memory.specs.declared.array.Array.{Array}
 use Rattle.bay_memory.specs.Device.{View, view_of}
 

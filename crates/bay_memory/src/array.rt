@@ -4,6 +4,7 @@ ghost use Rattle.bay_memory.specs.Past.{blank_track};
 ghost use Rattle.bay_memory.specs.Array.{IsWhole};
 
 use crate::device::Device;
+use crate::operation::Operation;
 use std::alloc::{AllocError, Global};
 
 /// The devices of an array, which hold their zones.
@@ -29,9 +30,9 @@ fn blank_devices(alloc: Global, devices: u8, zones: u16) -> Result<Vec<Device>, 
 
 impl Array {
     ghost use Rattle.zone_bay.specs.Outside.{counted};
-    ghost use Rattle.bay_memory.specs.Past.{with_more, all_gone, all_firm};
-    ghost use Rattle.bay_memory.specs.Device.{View, NotesFailure, KeepsFailures};
-    ghost use Rattle.bay_memory.specs.Array.{view_at, contents_in, firm_in, AreFresh, AllSteady, in_zone, in_device, ArrayGoes, KeepsTracks, AllKeepFailures, lost_in, with_lost};
+    ghost use Rattle.bay_memory.specs.Operation.{call_of, IsWithin};
+    ghost use Rattle.bay_memory.specs.Device.{View};
+    ghost use Rattle.bay_memory.specs.Array.{contents_in, firm_in, AreFresh, AllSteady, ArrayMakes, KeepsTracks, AllKeepFailures, NotesFault, lost_in, with_lost};
     ghost use Rattle.bay_memory.specs.Views.{views_of, shape_of};
 
     /// An array whose zones hold nothing.
@@ -101,66 +102,15 @@ impl Array {
         self.devices[usize::from(device)].is_lost()
     }
 
-    /// Puts the bytes at the end of a zone, all of them or none.
-    pub fn append(
-        &mut self,
-        moment: u64,
-        device: u8,
-        zone: u16,
-        bytes: &[u8],
-    ) -> Result<(), AllocError>
-        requires device_in { device < (shape_of self.old).devices }
-        requires zone_in { zone < (shape_of self.old).zones }
-        requires fits { length (contents_in (views_of self.old) device zone) + length bytes.now ≤ 512 * (shape_of self.old).blocks }
+    /// Makes a call, all of it or nothing. Only an append needs memory.
+    pub fn make(&mut self, moment: u64, operation: Operation<'_>) -> Result<(), AllocError>
+        requires within { IsWithin (call_of operation) (shape_of self.old) (contents_in (views_of self.old)) }
         requires steady { AllSteady moment (views_of self.old) }
-        ensures ok { OnOk result (ArrayGoes moment (in_zone device zone (with_more bytes.now)) (views_of self.old) (views_of self.new)) }
-        ensures err { OnErr result (KeepsTracks (views_of self.old) (views_of self.new)) }
         ensures shape { shape_of self.new ≡ shape_of self.old }
-        ensures failures { AllKeepFailures (views_of self.old) (views_of self.new) }
-        ensures lost { lost_in (views_of self.new) ≡ lost_in (views_of self.old) }
+        ensures call { ArrayMakes moment (call_of operation.entry) (views_of self.old) (views_of self.new) result }
     {
-        let device = usize::from(device);
-        self.devices[device].append(moment, zone.into(), bytes)
-    }
-
-    /// Empties a zone.
-    pub fn reset(&mut self, moment: u64, device: u8, zone: u16)
-        requires device_in { device < (shape_of self.old).devices }
-        requires zone_in { zone < (shape_of self.old).zones }
-        requires steady { AllSteady moment (views_of self.old) }
-        ensures zones { ArrayGoes moment (in_zone device zone all_gone) (views_of self.old) (views_of self.new) }
-        ensures shape { shape_of self.new ≡ shape_of self.old }
-        ensures failures { AllKeepFailures (views_of self.old) (views_of self.new) }
-        ensures lost { lost_in (views_of self.new) ≡ lost_in (views_of self.old) }
-    {
-        let device = usize::from(device);
-        self.devices[device].reset(moment, zone.into());
-    }
-
-    /// Makes all that the device holds firm.
-    pub fn flush(&mut self, moment: u64, device: u8)
-        requires device_in { device < (shape_of self.old).devices }
-        requires steady { AllSteady moment (views_of self.old) }
-        ensures zones { ArrayGoes moment (in_device device all_firm) (views_of self.old) (views_of self.new) }
-        ensures shape { shape_of self.new ≡ shape_of self.old }
-        ensures failures { AllKeepFailures (views_of self.old) (views_of self.new) }
-        ensures lost { lost_in (views_of self.new) ≡ lost_in (views_of self.old) }
-    {
-        let device = usize::from(device);
-        self.devices[device].flush(moment);
-    }
-
-    /// Empties each zone of the device, which works from now on.
-    pub fn replace(&mut self, moment: u64, device: u8)
-        requires device_in { device < (shape_of self.old).devices }
-        requires steady { AllSteady moment (views_of self.old) }
-        ensures zones { ArrayGoes moment (in_device device all_gone) (views_of self.old) (views_of self.new) }
-        ensures shape { shape_of self.new ≡ shape_of self.old }
-        ensures failures { AllKeepFailures (views_of self.old) (views_of self.new) }
-        ensures lost { lost_in (views_of self.new) ≡ with_lost device false (views_of self.old) }
-    {
-        let device = usize::from(device);
-        self.devices[device].replace(moment);
+        let device = usize::from(operation.device());
+        self.devices[device].make(moment, operation)
     }
 
     /// The device is lost from now on.
@@ -178,13 +128,8 @@ impl Array {
     /// Counts a failed call on the device and notes its moment.
     pub fn fail(&mut self, moment: u64, device: u8)
         requires { device < (shape_of self.old).devices }
-        ensures zones { KeepsTracks (views_of self.old) (views_of self.new) }
         ensures shape { shape_of self.new ≡ shape_of self.old }
-        ensures faults { (view_at (views_of self.new) device).faults ≡ counted (view_at (views_of self.old) device).faults }
-        ensures no_fewer { (view_at (views_of self.old) device).faults ≤ (view_at (views_of self.new) device).faults }
-        ensures failure { NotesFailure moment (view_at (views_of self.old) device) (view_at (views_of self.new) device) }
-        ensures others { (d : ℕ) → (d ≡ device → ⊥) → KeepsFailures (view_at (views_of self.old) d) (view_at (views_of self.new) d) }
-        ensures lost { lost_in (views_of self.new) ≡ lost_in (views_of self.old) }
+        ensures fault { NotesFault device moment (views_of self.old) (views_of self.new) }
     {
         let device = usize::from(device);
         self.devices[device].fail(moment);

@@ -1,9 +1,12 @@
-ghost use Rattle.std.specs.Prelude.{◌≡◌, ◌<◌, ◌≤◌, true, false, length, map, replicate, IfOk, OnOk, OnErr};
+ghost use Rattle.std.specs.Prelude.{◌≡◌, ◌<◌, ◌≤◌, true, false, length, map, replicate, IfOk};
 ghost use Rattle.zone_bay.specs.Outside.{counted};
-ghost use Rattle.bay_memory.specs.Past.{now, with_more, all_gone, all_firm, blank_track};
+ghost use Rattle.bay_memory.specs.Past.{now, changed_by, blank_track};
 ghost use Rattle.bay_memory.specs.Zone.{track_of};
-ghost use Rattle.bay_memory.specs.Device.{view_of, view_with, track_in, AreSteady, at_zone, ZonesGo, NotesFailure, KeepsFailures};
+ghost use Rattle.bay_memory.specs.Operation.{call_of, ZoneIn};
+ghost use Rattle.bay_memory.specs.Device.{view_of, view_with, track_in, AreSteady, ZonesGo, DeviceMakes, NotesFailure, KeepsFailures};
 
+use crate::change::Change;
+use crate::operation::Operation;
 use crate::zone::Zone;
 use std::alloc::{AllocError, Global};
 
@@ -32,21 +35,12 @@ fn blank_zones(alloc: Global, zones: u16) -> Result<Vec<Zone>, AllocError>
     Ok(blank)
 }
 
-fn flush_each(zones: &mut [Zone], moment: u64)
+fn change_each(zones: &mut [Zone], moment: u64, change: Change)
     requires { AreSteady moment (map track_of zones.old) }
-    ensures { ZonesGo moment (λ _. all_firm) (map track_of zones.old) (map track_of zones.new) }
+    ensures { ZonesGo moment (λ _. changed_by change) (map track_of zones.old) (map track_of zones.new) }
 {
     for zone in zones.iter_mut() {
-        zone.flush(moment);
-    }
-}
-
-fn reset_each(zones: &mut [Zone], moment: u64)
-    requires { AreSteady moment (map track_of zones.old) }
-    ensures { ZonesGo moment (λ _. all_gone) (map track_of zones.old) (map track_of zones.new) }
-{
-    for zone in zones.iter_mut() {
-        zone.reset(moment);
+        zone.change(moment, change);
     }
 }
 
@@ -93,48 +87,27 @@ impl Device {
         self.lost
     }
 
-    /// Puts the bytes at the end of a zone, all of them or none.
-    pub fn append(&mut self, moment: u64, zone: usize, bytes: &[u8]) -> Result<(), AllocError>
-        requires zone_in { zone < length (view_of self.old).tracks }
+    /// Makes a call on it, all of it or nothing. Only an append needs memory.
+    pub fn make(&mut self, moment: u64, operation: Operation<'_>) -> Result<(), AllocError>
+        requires zone_in { ZoneIn (call_of operation) (length (view_of self.old).tracks) }
         requires steady { AreSteady moment (view_of self.old).tracks }
-        ensures ok { OnOk result (ZonesGo moment (at_zone zone (with_more bytes.now)) (view_of self.old).tracks (view_of self.new).tracks) }
-        ensures err { OnErr result ((view_of self.new).tracks ≡ (view_of self.old).tracks) }
-        ensures failures { KeepsFailures (view_of self.old) (view_of self.new) }
-        ensures lost { (view_of self.new).lost ≡ (view_of self.old).lost }
+        ensures { DeviceMakes moment (call_of operation.entry) (view_of self.old) (view_of self.new) result }
     {
-        self.zones[zone].append(moment, bytes)
-    }
-
-    /// Empties a zone.
-    pub fn reset(&mut self, moment: u64, zone: usize)
-        requires zone_in { zone < length (view_of self.old).tracks }
-        requires steady { AreSteady moment (view_of self.old).tracks }
-        ensures zones { ZonesGo moment (at_zone zone all_gone) (view_of self.old).tracks (view_of self.new).tracks }
-        ensures failures { KeepsFailures (view_of self.old) (view_of self.new) }
-        ensures lost { (view_of self.new).lost ≡ (view_of self.old).lost }
-    {
-        self.zones[zone].reset(moment);
-    }
-
-    /// Makes all that it holds firm.
-    pub fn flush(&mut self, moment: u64)
-        requires { AreSteady moment (view_of self.old).tracks }
-        ensures zones { ZonesGo moment (λ _. all_firm) (view_of self.old).tracks (view_of self.new).tracks }
-        ensures failures { KeepsFailures (view_of self.old) (view_of self.new) }
-        ensures lost { (view_of self.new).lost ≡ (view_of self.old).lost }
-    {
-        flush_each(&mut self.zones, moment);
-    }
-
-    /// Empties each zone. It works from now on.
-    pub fn replace(&mut self, moment: u64)
-        requires { AreSteady moment (view_of self.old).tracks }
-        ensures zones { ZonesGo moment (λ _. all_gone) (view_of self.old).tracks (view_of self.new).tracks }
-        ensures failures { KeepsFailures (view_of self.old) (view_of self.new) }
-        ensures lost { (view_of self.new).lost ≡ false }
-    {
-        reset_each(&mut self.zones, moment);
-        self.lost = false;
+        match operation {
+            Operation::Written { .. } | Operation::Read { .. } => {}
+            Operation::Append(put) => {
+                return self.zones[usize::from(put.zone)].append(moment, put.bytes);
+            }
+            Operation::Reset { zone, .. } => {
+                self.zones[usize::from(zone)].change(moment, Change::Reset);
+            }
+            Operation::Flush { .. } => change_each(&mut self.zones, moment, Change::Flush),
+            Operation::Replace { .. } => {
+                change_each(&mut self.zones, moment, Change::Reset);
+                self.lost = false;
+            }
+        }
+        Ok(())
     }
 
     /// It is lost from now on.

@@ -1,9 +1,9 @@
-ghost use Rattle.std.specs.Prelude.{◌≡◌, ◌⊎◌, ℕ, ◌*◌, ◌+◌, ◌<◌, ◌≤◌, [], length, map, if◌then◌else◌, IfOk, IsTrue};
+ghost use Rattle.std.specs.Prelude.{◌≡◌, ◌<◌, ◌≤◌, length, map, IfOk};
 ghost use Rattle.bay_memory.specs.Array.{AreFresh, contents_in, firm_in};
 ghost use Rattle.bay_memory.specs.Views.{views_of, shape_of};
 ghost use Rattle.bay_memory.specs.Zone.{track_of};
 ghost use Rattle.bay_memory.specs.Device.{view_of, view_with};
-ghost use Rattle.bay_memory.specs.Keep.{left_by};
+ghost use Rattle.bay_memory.specs.Keep.{kept_with, left_by};
 ghost use Rattle.bay_memory.specs.Copies.{AreCopies, IsCopy, AreDeviceCopies};
 
 use crate::array::Array;
@@ -20,14 +20,7 @@ pub struct Image {
     ghost fresh: { AreFresh (views_of array) },
 }
 
-/// These bytes, or none.
-fn bytes_if(here: bool, bytes: &[u8]) -> &[u8]
-    ensures { result.now ≡ (if here then bytes.now else []) }
-{
-    if here { bytes } else { &[] }
-}
-
-/// Copies of a device's zones, as the crash leaves them.
+/// Copies of a device's zones, as a crash leaves them.
 fn copied_zones(
     alloc: Global,
     array: &Array,
@@ -35,23 +28,20 @@ fn copied_zones(
     device: u8,
 ) -> Result<Vec<Zone>, AllocError>
     requires { device < (shape_of array.now).devices }
-    ensures { IfOk result (λ zones. AreCopies crash.now (contents_in (views_of array.now)) (firm_in (views_of array.now)) device (shape_of array.now).zones (map track_of zones.items)) }
+    ensures { IfOk result (λ zones. AreCopies (kept_with crash.now (contents_in (views_of array.now)) (firm_in (views_of array.now))) device (shape_of array.now).zones (map track_of zones.items)) }
 {
     let mut zones = Vec::new(alloc);
     for zone in 0..array.zones() {
         let held = array.held(device, zone);
         let firm = array.firm(device, zone);
-        let length = crash
-            .keep
-            .bytes(device, zone, held.len(), firm)
-            .min(held.len());
-        let behind = bytes_if(device == crash.device && zone == crash.zone, crash.more);
-        zones.push(Zone::of(alloc, &held[..length], behind)?)?;
+        let kept = crash.keep.bytes(device, zone, held.len(), firm);
+        let bytes = &held[..kept.min(held.len())];
+        zones.push(Zone::of(alloc, bytes, crash.behind(device, zone))?)?;
     }
     Ok(zones)
 }
 
-/// A copy of a device, as the crash leaves it, or a blank one where it is removed.
+/// A copy of a device, as a crash leaves it, or a blank one where it is removed.
 fn copied_device(
     alloc: Global,
     array: &Array,
@@ -59,7 +49,7 @@ fn copied_device(
     device: u8,
 ) -> Result<Device, AllocError>
     requires { device < (shape_of array.now).devices }
-    ensures { IfOk result (λ copy. IsCopy crash.now (contents_in (views_of array.now)) (firm_in (views_of array.now)) device (shape_of array.now).zones (view_of copy)) }
+    ensures { IfOk result (λ copy. IsCopy (left_by crash.now (contents_in (views_of array.now)) (firm_in (views_of array.now))) device (shape_of array.now).zones (view_of copy)) }
 {
     if crash.removed.contains(&device) {
         return Device::blank(alloc, array.zones());
@@ -70,7 +60,7 @@ fn copied_device(
 
 /// Copies of all devices.
 fn copied_devices(alloc: Global, array: &Array, crash: &Crash) -> Result<Vec<Device>, AllocError>
-    ensures { IfOk result (λ copies. AreDeviceCopies crash.now (contents_in (views_of array.now)) (firm_in (views_of array.now)) (shape_of array.now) (map view_of copies.items)) }
+    ensures { IfOk result (λ copies. AreDeviceCopies (left_by crash.now (contents_in (views_of array.now)) (firm_in (views_of array.now))) (shape_of array.now).devices (shape_of array.now).zones (map view_of copies.items)) }
 {
     let mut devices = Vec::new(alloc);
     for device in 0..array.devices() {
@@ -81,11 +71,11 @@ fn copied_devices(alloc: Global, array: &Array, crash: &Crash) -> Result<Vec<Dev
 
 impl Image {
     ghost use Rattle.bay_memory.specs.Image.{image_shape, image_bytes};
+    ghost use Rattle.bay_memory.specs.Operation.{PutFits};
 
     /// What the crash leaves of the array.
     pub(crate) fn of(alloc: Global, array: &Array, crash: &Crash) -> Result<Image, AllocError>
-        requires at { (crash.now.more.now ≡ []) ⊎ ((crash.now.device < (shape_of array.now).devices) × (crash.now.zone < (shape_of array.now).zones)) }
-        requires fits { length (contents_in (views_of array.now) crash.now.device crash.now.zone) + length crash.now.more.now ≤ 512 * (shape_of array.now).blocks }
+        requires { PutFits crash.now.put (shape_of array.now) (contents_in (views_of array.now)) }
         ensures shape { IfOk result (λ image. image_shape image ≡ shape_of array.now) }
         ensures bytes { IfOk result (λ image. image_bytes image ≡ left_by crash.now (contents_in (views_of array.now)) (firm_in (views_of array.now))) }
     {

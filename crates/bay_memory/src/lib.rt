@@ -4,11 +4,13 @@
 
 mod array;
 mod asked;
+mod change;
 mod crash;
 mod device;
 mod image;
 mod keep;
 mod memory_bay;
+mod operation;
 mod was;
 mod zone;
 

@@ -1,4 +1,4 @@
-ghost use Rattle.std.specs.Prelude.{◌≡◌, ◌⊎◌, ℕ, ◌*◌, ◌<◌, ◌^◌, ◌++◌, Some, None, true, false, ◌+◌, ◌≤◌, [], length, take, map, replicate, vec_len, if◌then◌else◌, MatchResult, option_map, IfOk, OnOk, OnErr, IfSome, IsTrue, ◌↔◌};
+ghost use Rattle.std.specs.Prelude.{◌≡◌, ℕ, ◌+◌, ◌*◌, ◌<◌, ◌≤◌, ◌++◌, true, Some, None, length, option_map, IfOk, OnOk, OnErr, IsTrue, ◌↔◌};
 ghost use Rattle.bay_memory.specs.Array.{AllSteady};
 ghost use Rattle.bay_memory.specs.Views.{views_of};
 
@@ -7,6 +7,7 @@ use crate::asked::Asked;
 use crate::crash::Crash;
 use crate::image::Image;
 use crate::keep::Keep;
+use crate::operation::{Operation, Put};
 use smore_base::Memory;
 use std::alloc::{AllocError, Global};
 use zone_bay::{Bay, Failed};
@@ -36,15 +37,14 @@ pub struct MemoryBay {
 }
 
 impl MemoryBay {
-    ghost use Rattle.zone_bay.specs.Bay.{IsCallOn, appended, reads_after};
+    ghost use Rattle.zone_bay.specs.Outside.{last};
     ghost use Rattle.zone_bay.specs.Images.{without_each};
-    ghost use Rattle.zone_bay.specs.Moments.{TellsFailure};
-    ghost use Rattle.zone_bay.specs.Outside.{counted, last};
+    ghost use Rattle.zone_bay.specs.Bay.{device_of, reads_after, Makes};
+    ghost use Rattle.bay_memory.specs.Operation.{call_of, done_unless, IsWithin};
     ghost use Rattle.bay_memory.specs.Array.{AreFresh, KeepsTracks, AllKeepFailures, with_lost};
-    ghost use Rattle.bay_memory.specs.declared.asked.Asked.{Asked};
     ghost use Rattle.bay_memory.specs.Image.{image_shape, image_bytes};
     ghost use Rattle.bay_memory.specs.Keep.{kept, IsLeft};
-    ghost use Rattle.bay_memory.specs.MemoryBay.{bay_views, bay_shape, contents_of, firm_of, faults_of, failed_of, lost_of, bay_moment, reads_of, listed_calls, asked_of, stored_of, kept_of, IsDue, IsAsked, KeepsImage, IsBlank, IsNew, NotesFault, KeepsArray, KeepsRequests};
+    ghost use Rattle.bay_memory.specs.MemoryBay.{bay_views, bay_shape, bay_moment, contents_of, firm_of, lost_of, reads_of, state_of, listed_calls, asked_of, stored_of, kept_of, IsDue, IsDueOn, IsDueFor, IsAsked, IsBlank, IsNew, KeepsArray, KeepsRequests, TakesImage, Begins, MakesInMemory};
 
     /// A bay that holds nothing, has made no call and has no call listed. `Memory` comes too where a zone has 4 GiB
     /// or more.
@@ -118,10 +118,8 @@ impl MemoryBay {
     {
         let crash = Crash {
             keep,
+            put: None,
             removed,
-            device: 0,
-            zone: 0,
-            more: &[],
         };
         Ok(Image::of(*self.listed.allocator(), &self.array, &crash)?)
     }
@@ -166,6 +164,14 @@ impl MemoryBay {
         self.moment == u64::MAX || self.listed.contains(&self.moment)
     }
 
+    /// Whether it is to fail on this device, where it isn't a replacement.
+    fn is_due_on(&self, device: u8) -> bool
+        requires { device < (bay_shape self.now).devices }
+        ensures { IsTrue result ↔ IsDueOn device self.now }
+    {
+        self.is_due() || self.array.is_lost(device)
+    }
+
     /// Whether the image of the call that is made next is asked for.
     fn is_asked(&self) -> bool
         ensures { IsTrue result ↔ IsAsked self.now }
@@ -176,31 +182,23 @@ impl MemoryBay {
         }
     }
 
-    /// The number of reads of drives, with one of this device.
-    fn reads_with(&self, device: u8) -> u64
-        requires { device < (bay_shape self.now).devices }
-        ensures { result ≡ reads_after (bay_shape self.now) device (reads_of self.now) }
+    /// The number of reads of drives, once the call is made.
+    fn reads_with(&self, operation: Operation<'_>) -> u64
+        requires { device_of (call_of operation) < (bay_shape self.now).devices }
+        ensures { result ≡ reads_after (call_of operation.entry) (state_of self.now) }
     {
-        if device + 1 < self.array.devices() {
-            self.reads.saturating_add(1)
-        } else {
-            self.reads
+        match operation {
+            Operation::Read { device, .. } if device + 1 < self.array.devices() => {
+                self.reads.saturating_add(1)
+            }
+            _ => self.reads,
         }
     }
 
     /// Takes the image of the call that is made now, if it is asked for.
-    fn take_image(
-        &mut self,
-        due: bool,
-        device: u8,
-        zone: u16,
-        bytes: &[u8],
-    ) -> Result<(), AllocError>
-        requires at { (bytes.now ≡ []) ⊎ ((device < (bay_shape self.old).devices) × (zone < (bay_shape self.old).zones)) }
-        requires fits { length (contents_of self.old device zone) + length bytes.now ≤ 512 * (bay_shape self.old).blocks }
-        ensures not_asked { (IsAsked self.old → ⊥) → (self.new.asked ≡ self.old.asked) × (self.new.kept ≡ self.old.kept) }
-        ensures no_longer { IsAsked self.old → self.new.asked ≡ None }
-        ensures done { (asked : Asked) → self.old.asked ≡ Some asked → asked.call ≡ bay_moment self.old → OnOk result (KeepsImage (appended device zone (if due then [] else take asked.bytes bytes.now) (contents_of self.old)) self.old self.new) }
+    fn take_image(&mut self, due: bool, operation: Operation<'_>) -> Result<(), AllocError>
+        requires { IsWithin (call_of operation) (bay_shape self.old) (contents_of self.old) }
+        ensures image { TakesImage (done_unless due (call_of operation.entry)) self.old self.new result }
         ensures err { OnErr result (IsAsked self.old × (kept_of self.new ≡ None)) }
         ensures listed { listed_calls self.new ≡ listed_calls self.old }
         ensures array { KeepsArray self.old self.new }
@@ -211,104 +209,65 @@ impl MemoryBay {
         };
         self.asked = None;
         self.kept = None;
-        let done = if due {
-            0
-        } else {
-            bytes.len().min(asked.bytes as usize)
-        };
         let crash = Crash {
             keep: Keep::All,
+            put: operation.done(due, asked.bytes),
             removed: &[],
-            device,
-            zone,
-            more: &bytes[..done],
         };
         let image = Image::of(*self.listed.allocator(), &self.array, &crash)?;
         self.kept = Some(image);
         Ok(())
     }
 
-    /// Counts a call on the device that appends these bytes, takes its image, and lets it fail where it is due. It
-    /// answers the call's moment.
-    fn begin(&mut self, due: bool, device: u8, zone: u16, bytes: &[u8]) -> Result<u64, Failed>
-        requires device_in { device < (bay_shape self.old).devices }
-        requires at { (bytes.now ≡ []) ⊎ (zone < (bay_shape self.old).zones) }
-        requires fits { length (contents_of self.old device zone) + length bytes.now ≤ 512 * (bay_shape self.old).blocks }
+    /// Counts a call, takes its image, and makes it where it isn't due to fail. No failure is counted yet.
+    fn begin(&mut self, due: bool, operation: Operation<'_>) -> Result<(), Failed>
+        requires within { IsWithin (call_of operation) (bay_shape self.old) (contents_of self.old) }
         requires last { bay_moment self.old ≡ last → due ≡ true }
-        ensures exact { MatchResult result (λ moment. (moment ≡ bay_moment self.old) × (due ≡ false)) (λ _. (due ≡ true) ⊎ IsAsked self.old) }
-        ensures call { IsCallOn bay_shape bay_moment faults_of device self.old self.new result }
-        ensures count { OnErr result (faults_of self.new device ≡ counted (faults_of self.old device)) }
-        ensures failure { TellsFailure device (bay_moment self.old) (failed_of self.old) (failed_of self.new) result }
-        ensures tracks { KeepsTracks (bay_views self.old) (bay_views self.new) }
-        ensures lost { lost_of self.new ≡ lost_of self.old }
-        ensures reads { reads_of self.new ≡ reads_of self.old }
-        ensures listed { listed_calls self.new ≡ listed_calls self.old }
-        ensures not_asked { (IsAsked self.old → ⊥) → (self.new.asked ≡ self.old.asked) × (self.new.kept ≡ self.old.kept) }
-        ensures no_longer { IsAsked self.old → self.new.asked ≡ None }
-        ensures done { (asked : Asked) → self.old.asked ≡ Some asked → asked.call ≡ bay_moment self.old → OnOk result (KeepsImage (appended device zone (take asked.bytes bytes.now) (contents_of self.old)) self.old self.new) }
-        ensures failed { IsAsked self.old → OnErr result ((kept_of self.new ≡ None) ⊎ KeepsImage (contents_of self.old) self.old self.new) }
+        ensures { Begins due (call_of operation.entry) self.old self.new result }
     {
         let moment = self.moment;
-        let image = self.take_image(due, device, zone, bytes);
+        let reads = self.reads_with(operation);
+        let asked = self.is_asked();
+        let image = self.take_image(due, operation);
         self.moment = moment.saturating_add(1);
+        self.reads = reads;
         if due || image.is_err() {
-            self.array.fail(moment, device);
             return Err(Failed);
         }
-        Ok(moment)
+        if self.array.make(moment, operation).is_err() {
+            if asked {
+                self.kept = None;
+            }
+            return Err(Failed);
+        }
+        Ok(())
     }
 
-    /// Counts the failure of a call that was begun, and gives its image up.
-    fn give_up(&mut self, moment: u64, device: u8, asked: bool) -> Failed
-        requires { device < (bay_shape self.old).devices }
-        ensures fault { NotesFault device moment self.old self.new }
-        ensures moment { bay_moment self.new ≡ bay_moment self.old }
-        ensures asked { self.new.asked ≡ self.old.asked }
-        ensures kept { asked ≡ false → self.new.kept ≡ self.old.kept }
-        ensures given_up { asked ≡ true → kept_of self.new ≡ None }
+    /// Makes a call, and counts its failure.
+    fn make(&mut self, due: bool, operation: Operation<'_>) -> Result<(), Failed>
+        requires within { IsWithin (call_of operation) (bay_shape self.old) (contents_of self.old) }
+        requires due { IsTrue due ↔ IsDueFor (call_of operation) self.old }
+        ensures call { Makes (call_of operation.entry) (state_of self.old) (state_of self.new) result }
+        ensures memory { MakesInMemory (call_of operation.entry) self.old self.new result }
     {
-        self.array.fail(moment, device);
-        if asked {
-            self.kept = None;
+        let moment = self.moment;
+        if self.begin(due, operation).is_err() {
+            self.array.fail(moment, operation.device());
+            return Err(Failed);
         }
-        Failed
+        Ok(())
     }
 }
 
 impl Bay for MemoryBay {
-    ghost use Rattle.zone_bay.specs.Bay.{IsCallOn, reads_after, Reads, Becomes, appended, emptied, blanked, BecomesInPart, BecomesOrStays};
-    ghost use Rattle.zone_bay.specs.Images.{flushed, still_firm};
-    ghost use Rattle.zone_bay.specs.Moments.{Elapses, TellsFailure};
-    ghost use Rattle.zone_bay.specs.Outside.{counted};
-    ghost use Rattle.bay_memory.specs.Array.{with_lost};
-    ghost use Rattle.bay_memory.specs.MemoryBay.{bay_views, bay_shape, contents_of, told, firm_of, left_of, faults_of, failed_of, lost_of, bay_moment, reads_of, listed_calls, IsDue, IsDueOn, IsAsked, FailsIf, TakesImage};
-    ghost use Rattle.bay_memory.specs.Laws.{holds_firm, counts_image, only_image, none_during, none_past};
+    ghost use Rattle.zone_bay.specs.Bay.{Written, Read, Append, Reset, Flush, Replace, Makes};
+    ghost use Rattle.zone_bay.specs.Contents.{Reads};
+    ghost use Rattle.bay_memory.specs.MemoryBay.{state_of, bay_shape, contents_of, MakesInMemory};
+    ghost use Rattle.bay_memory.specs.Laws.{is_sound};
 
-    ghost shape = { bay_shape };
+    ghost state = { state_of };
 
-    ghost contents = { told };
-
-    ghost firm = { firm_of };
-
-    ghost left = { left_of };
-
-    ghost faults = { faults_of };
-
-    ghost failed_at = { failed_of };
-
-    ghost moment = { bay_moment };
-
-    ghost reads = { reads_of };
-
-    ghost firm_held = { holds_firm };
-
-    ghost counts_now = { counts_image };
-
-    ghost only_now = { only_image };
-
-    ghost none_yet = { none_during };
-
-    ghost none_later = { none_past };
+    ghost sound = { is_sound };
 
     fn devices(&self) -> u8 {
         self.array.devices()
@@ -329,21 +288,12 @@ impl Bay for MemoryBay {
     fn written(&mut self, device: u8, zone: u16) -> Result<u32, Failed>
         requires device_in { device < (bay_shape self.old).devices }
         requires zone_in { zone < (bay_shape self.old).zones }
-        ensures exact { FailsIf (IsDueOn device self.old) self.old result }
         ensures length { IfOk result (λ bytes. bytes ≡ length (contents_of self.old device zone)) }
-        ensures same { told self.new ≡ told self.old }
-        ensures firm { firm_of self.new ≡ firm_of self.old }
-        ensures call { IsCallOn bay_shape bay_moment faults_of device self.old self.new result }
-        ensures reads { reads_of self.new ≡ reads_of self.old }
-        ensures time { Elapses told firm_of bay_moment left_of (λ held. held) self.old self.new result }
-        ensures count { OnErr result (faults_of self.new device ≡ counted (faults_of self.old device)) }
-        ensures failure { TellsFailure device (bay_moment self.old) (failed_of self.old) (failed_of self.new) result }
-        ensures listed { listed_calls self.new ≡ listed_calls self.old }
-        ensures lost { lost_of self.new ≡ lost_of self.old }
-        ensures image { TakesImage device zone [] self.old self.new result }
+        ensures call { Makes (Written device zone) (state_of self.old) (state_of self.new) result }
+        ensures memory { MakesInMemory (Written device zone) self.old self.new result }
     {
-        let due = self.is_due() || self.array.is_lost(device);
-        self.begin(due, device, zone, &[])?;
+        let due = self.is_due_on(device);
+        self.make(due, Operation::Written { device, zone })?;
         Ok(self.held(device, zone).len() as u32)
     }
 
@@ -351,25 +301,18 @@ impl Bay for MemoryBay {
         requires device_in { device < (bay_shape self.old).devices }
         requires zone_in { zone < (bay_shape self.old).zones }
         requires written { at + length out.old ≤ length (contents_of self.old device zone) }
-        ensures exact { FailsIf (IsDueOn device self.old) self.old result }
         ensures bytes { OnOk result (Reads (contents_of self.old device zone) at out.new) }
-        ensures same { told self.new ≡ told self.old }
-        ensures firm { firm_of self.new ≡ firm_of self.old }
-        ensures call { IsCallOn bay_shape bay_moment faults_of device self.old self.new result }
-        ensures reads { reads_of self.new ≡ reads_after (bay_shape self.old) device (reads_of self.old) }
-        ensures time { Elapses told firm_of bay_moment left_of (λ held. held) self.old self.new result }
-        ensures count { OnErr result (faults_of self.new device ≡ counted (faults_of self.old device)) }
-        ensures failure { TellsFailure device (bay_moment self.old) (failed_of self.old) (failed_of self.new) result }
-        ensures listed { listed_calls self.new ≡ listed_calls self.old }
-        ensures lost { lost_of self.new ≡ lost_of self.old }
-        ensures image { TakesImage device zone [] self.old self.new result }
+        ensures untouched { OnErr result (out.new ≡ out.old) }
+        ensures call { Makes (Read device zone) (state_of self.old) (state_of self.new) result }
+        ensures memory { MakesInMemory (Read device zone) self.old self.new result }
     {
-        let due = self.is_due() || self.array.is_lost(device);
-        self.reads = self.reads_with(device);
-        self.begin(due, device, zone, &[])?;
-        let at = at as usize;
-        out.copy_from_slice(&self.held(device, zone)[at..at + out.len()]);
-        Ok(())
+        let due = self.is_due_on(device);
+        let made = self.make(due, Operation::Read { device, zone });
+        if made.is_ok() {
+            let at = at as usize;
+            out.copy_from_slice(&self.held(device, zone)[at..at + out.len()]);
+        }
+        made
     }
 
     // It fails where there is no memory for the bytes, too.
@@ -377,91 +320,39 @@ impl Bay for MemoryBay {
         requires device_in { device < (bay_shape self.old).devices }
         requires zone_in { zone < (bay_shape self.old).zones }
         requires fits { length (contents_of self.old device zone) + length bytes.now ≤ 512 * (bay_shape self.old).blocks }
-        ensures exact { OnOk result (IsDueOn device self.old → ⊥) }
-        ensures kept { OnErr result (told self.new ≡ told self.old) }
-        ensures ok { OnOk result (Becomes (appended device zone bytes.now) (told self.old) (told self.new)) }
-        ensures err { OnErr result (BecomesInPart device zone bytes.now (told self.old) (told self.new)) }
-        ensures firm { firm_of self.new ≡ firm_of self.old }
-        ensures call { IsCallOn bay_shape bay_moment faults_of device self.old self.new result }
-        ensures reads { reads_of self.new ≡ reads_of self.old }
-        ensures time { Elapses told firm_of bay_moment left_of (appended device zone bytes.now) self.old self.new result }
-        ensures count { OnErr result (faults_of self.new device ≡ counted (faults_of self.old device)) }
-        ensures failure { TellsFailure device (bay_moment self.old) (failed_of self.old) (failed_of self.new) result }
-        ensures listed { listed_calls self.new ≡ listed_calls self.old }
-        ensures lost { lost_of self.new ≡ lost_of self.old }
-        ensures image { TakesImage device zone bytes.now self.old self.new result }
+        ensures call { Makes (Append device zone bytes.now) (state_of self.old) (state_of self.new) result }
+        ensures memory { MakesInMemory (Append device zone bytes.now) self.old self.new result }
     {
-        let due = self.is_due() || self.array.is_lost(device);
-        let asked = self.is_asked();
-        let moment = self.begin(due, device, zone, bytes)?;
-        match self.array.append(moment, device, zone, bytes) {
-            Ok(()) => Ok(()),
-            Err(_) => Err(self.give_up(moment, device, asked)),
-        }
+        let put = Put {
+            device,
+            zone,
+            bytes,
+        };
+        self.make(self.is_due_on(device), Operation::Append(put))
     }
 
     fn reset(&mut self, device: u8, zone: u16) -> Result<(), Failed>
         requires device_in { device < (bay_shape self.old).devices }
         requires zone_in { zone < (bay_shape self.old).zones }
-        ensures exact { FailsIf (IsDueOn device self.old) self.old result }
-        ensures kept { OnErr result (told self.new ≡ told self.old) }
-        ensures ok { OnOk result (Becomes (emptied device zone) (told self.old) (told self.new)) }
-        ensures err { OnErr result (BecomesOrStays (emptied device zone) (told self.old) (told self.new)) }
-        ensures firm { IfSome (told self.new) (λ held. firm_of self.new ≡ still_firm held (firm_of self.old)) }
-        ensures call { IsCallOn bay_shape bay_moment faults_of device self.old self.new result }
-        ensures reads { reads_of self.new ≡ reads_of self.old }
-        ensures time { Elapses told firm_of bay_moment left_of (emptied device zone) self.old self.new result }
-        ensures count { OnErr result (faults_of self.new device ≡ counted (faults_of self.old device)) }
-        ensures failure { TellsFailure device (bay_moment self.old) (failed_of self.old) (failed_of self.new) result }
-        ensures listed { listed_calls self.new ≡ listed_calls self.old }
-        ensures lost { lost_of self.new ≡ lost_of self.old }
-        ensures image { TakesImage device zone [] self.old self.new result }
+        ensures call { Makes (Reset device zone) (state_of self.old) (state_of self.new) result }
+        ensures memory { MakesInMemory (Reset device zone) self.old self.new result }
     {
-        let due = self.is_due() || self.array.is_lost(device);
-        let moment = self.begin(due, device, zone, &[])?;
-        self.array.reset(moment, device, zone);
-        Ok(())
+        self.make(self.is_due_on(device), Operation::Reset { device, zone })
     }
 
     fn flush(&mut self, device: u8) -> Result<(), Failed>
         requires { device < (bay_shape self.old).devices }
-        ensures exact { FailsIf (IsDueOn device self.old) self.old result }
-        ensures same { told self.new ≡ told self.old }
-        ensures firm { OnOk result (IfSome (told self.old) (λ held. firm_of self.new ≡ flushed device held (firm_of self.old))) }
-        ensures firm_err { OnErr result (firm_of self.new ≡ firm_of self.old) }
-        ensures call { IsCallOn bay_shape bay_moment faults_of device self.old self.new result }
-        ensures reads { reads_of self.new ≡ reads_of self.old }
-        ensures time { Elapses told firm_of bay_moment left_of (λ held. held) self.old self.new result }
-        ensures count { OnErr result (faults_of self.new device ≡ counted (faults_of self.old device)) }
-        ensures failure { TellsFailure device (bay_moment self.old) (failed_of self.old) (failed_of self.new) result }
-        ensures listed { listed_calls self.new ≡ listed_calls self.old }
-        ensures lost { lost_of self.new ≡ lost_of self.old }
-        ensures image { TakesImage device 0 [] self.old self.new result }
+        ensures call { Makes (Flush device) (state_of self.old) (state_of self.new) result }
+        ensures memory { MakesInMemory (Flush device) self.old self.new result }
     {
-        let due = self.is_due() || self.array.is_lost(device);
-        let moment = self.begin(due, device, 0, &[])?;
-        self.array.flush(moment, device);
-        Ok(())
+        self.make(self.is_due_on(device), Operation::Flush { device })
     }
 
     fn replace(&mut self, device: u8) -> Result<(), Failed>
         requires { device < (bay_shape self.old).devices }
-        ensures exact { FailsIf (IsDue self.old) self.old result }
-        ensures kept { OnErr result (told self.new ≡ told self.old) }
-        ensures ok { OnOk result (Becomes (blanked device) (told self.old) (told self.new)) }
-        ensures err { OnErr result (BecomesOrStays (blanked device) (told self.old) (told self.new)) }
-        ensures firm { IfSome (told self.new) (λ held. firm_of self.new ≡ still_firm held (firm_of self.old)) }
-        ensures call { IsCallOn bay_shape bay_moment faults_of device self.old self.new result }
-        ensures reads { reads_of self.new ≡ reads_of self.old }
-        ensures time { Elapses told firm_of bay_moment left_of (blanked device) self.old self.new result }
-        ensures count { OnErr result (faults_of self.new device ≡ counted (faults_of self.old device)) }
-        ensures failure { TellsFailure device (bay_moment self.old) (failed_of self.old) (failed_of self.new) result }
-        ensures listed { listed_calls self.new ≡ listed_calls self.old }
-        ensures lost { MatchResult result (λ _. lost_of self.new ≡ with_lost device false (bay_views self.old)) (λ _. lost_of self.new ≡ lost_of self.old) }
-        ensures image { TakesImage device 0 [] self.old self.new result }
+        ensures call { Makes (Replace device) (state_of self.old) (state_of self.new) result }
+        ensures memory { MakesInMemory (Replace device) self.old self.new result }
     {
-        let moment = self.begin(self.is_due(), device, 0, &[])?;
-        self.array.replace(moment, device);
-        Ok(())
+        self.make(self.is_due(), Operation::Replace { device })
     }
 }

@@ -2,6 +2,7 @@ ghost use Rattle.std.specs.Prelude.{◌+◌, ◌<◌, ◌≤◌, ◌≡◌, ◌+
 ghost use Rattle.std.specs.Vec.{vec_capacity};
 ghost use Rattle.bay_memory.specs.Past.{LieWithin};
 
+use crate::change::Change;
 use crate::was::Was;
 use std::alloc::{AllocError, Global};
 
@@ -25,7 +26,7 @@ pub(crate) struct Zone {
 }
 
 impl Zone {
-    ghost use Rattle.bay_memory.specs.Past.{blank_track, now, IsSteady, Goes, with_more, all_gone, all_firm, IsFresh};
+    ghost use Rattle.bay_memory.specs.Past.{blank_track, now, IsSteady, Goes, with_more, all_gone, all_firm, IsFresh, changed_by};
     ghost use Rattle.bay_memory.specs.Zone.{track_of};
 
     /// A zone that holds nothing.
@@ -41,10 +42,10 @@ impl Zone {
     }
 
     /// A zone that has held both pieces, one behind the other, from the start, all of them firm.
-    pub fn of(alloc: Global, front: &[u8], more: &[u8]) -> Result<Zone, AllocError>
-        ensures { IfOk result (λ zone. IsFresh (front.now ++ more.now) (track_of zone)) }
+    pub fn of(alloc: Global, bytes: &[u8], more: &[u8]) -> Result<Zone, AllocError>
+        ensures { IfOk result (λ zone. IsFresh (bytes.now ++ more.now) (track_of zone)) }
     {
-        let mut bytes = front.to_vec(alloc)?;
+        let mut bytes = bytes.to_vec(alloc)?;
         bytes.extend_from_slice(more)?;
         let firm = bytes.len();
         let past = Vec::with_capacity(alloc, 1)?;
@@ -91,12 +92,23 @@ impl Zone {
         self.past.reserve(3)?;
         let was = self.was(moment);
         self.bytes.extend_from_slice(bytes)?;
-        let _noted = self.past.push(was);
+        self.past.push_reserved(was);
         Ok(())
     }
 
+    /// Changes all that it holds.
+    pub fn change(&mut self, moment: u64, change: Change)
+        requires { IsSteady moment (track_of self.old) }
+        ensures { Goes moment (changed_by change) (track_of self.old) (track_of self.new) }
+    {
+        match change {
+            Change::Flush => self.flush(moment),
+            Change::Reset => self.reset(moment),
+        }
+    }
+
     /// Empties it.
-    pub fn reset(&mut self, moment: u64)
+    fn reset(&mut self, moment: u64)
         requires { IsSteady moment (track_of self.old) }
         ensures { Goes moment all_gone (track_of self.old) (track_of self.new) }
     {
@@ -104,13 +116,13 @@ impl Zone {
             return;
         }
         let was = self.was(moment);
-        let _noted = self.past.push(was);
+        self.past.push_reserved(was);
         self.start = self.bytes.len();
         self.firm = 0;
     }
 
     /// Makes all that it holds firm.
-    pub fn flush(&mut self, moment: u64)
+    fn flush(&mut self, moment: u64)
         requires { IsSteady moment (track_of self.old) }
         ensures { Goes moment all_firm (track_of self.old) (track_of self.new) }
     {
@@ -119,7 +131,7 @@ impl Zone {
             return;
         }
         let was = self.was(moment);
-        let _noted = self.past.push(was);
+        self.past.push_reserved(was);
         self.firm = held;
     }
 }

@@ -1,4 +1,4 @@
-use Rattle.bay_memory.proofs.Devices.{whole_kept, tracks_kept, view_now, view_read, others_kept, lost_kept}
+use Rattle.bay_memory.proofs.Devices.{whole_kept, tracks_kept, fault_noted}
 use Rattle.bay_memory.proofs.array.Array.fail.Goals as goal
 
 pub invariant_of-self : goal.invariant_of-self
@@ -8,44 +8,10 @@ invariant_of-self c =
     let is = rw c.from-device.ensures at c.index_mut.ensures.value in
     record { small = self.small; whole = rw c.from-device.ensures (whole_kept self.zones self.blocks _ _ self.whole (tracks_kept self.devices.items c.args.device device c.fail.new.self c.requires is c.fail.ensures.zones)) }
 
-pub returns-clause-zones : goal.returns-clause-zones
-returns-clause-zones c =
+pub returns-clause-fault : goal.returns-clause-fault
+returns-clause-fault c =
     let self = c.args.self.now in
     let device = c.index_mut.result.now in
     let is = rw c.from-device.ensures at c.index_mut.ensures.value in
-    rw c.from-device.ensures (tracks_kept self.devices.items c.args.device device c.fail.new.self c.requires is c.fail.ensures.zones)
-
-pub returns-clause-faults : goal.returns-clause-faults
-returns-clause-faults c =
-    let self = c.args.self.now in
-    let device = c.index_mut.result.now in
-    let is = rw c.from-device.ensures at c.index_mut.ensures.value in
-    rw c.from-device.ensures (rw (view_now self.devices.items c.args.device device c.fail.new.self c.requires is, view_read self.devices.items c.args.device device c.fail.new.self c.requires is) c.fail.ensures.faults)
-
-pub returns-clause-no_fewer : goal.returns-clause-no_fewer
-returns-clause-no_fewer c =
-    let self = c.args.self.now in
-    let device = c.index_mut.result.now in
-    let is = rw c.from-device.ensures at c.index_mut.ensures.value in
-    rw c.from-device.ensures (rw (view_now self.devices.items c.args.device device c.fail.new.self c.requires is, view_read self.devices.items c.args.device device c.fail.new.self c.requires is) c.fail.ensures.no_fewer)
-
-pub returns-clause-failure : goal.returns-clause-failure
-returns-clause-failure c =
-    let self = c.args.self.now in
-    let device = c.index_mut.result.now in
-    let is = rw c.from-device.ensures at c.index_mut.ensures.value in
-    rw c.from-device.ensures (rw (view_now self.devices.items c.args.device device c.fail.new.self c.requires is, view_read self.devices.items c.args.device device c.fail.new.self c.requires is) c.fail.ensures.failures)
-
-pub returns-clause-others : goal.returns-clause-others
-returns-clause-others c =
-    let self = c.args.self.now in
-    let device = c.index_mut.result.now in
-    let is = rw c.from-device.ensures at c.index_mut.ensures.value in
-    rw c.from-device.ensures (others_kept self.devices.items c.args.device device c.fail.new.self c.requires is)
-
-pub returns-clause-lost : goal.returns-clause-lost
-returns-clause-lost c =
-    let self = c.args.self.now in
-    let device = c.index_mut.result.now in
-    let is = rw c.from-device.ensures at c.index_mut.ensures.value in
-    rw c.from-device.ensures (lost_kept self.devices.items c.args.device device c.fail.new.self c.requires is c.fail.ensures.lost)
+    let fail = c.fail.ensures in
+    rw c.from-device.ensures (fault_noted self.devices.items c.args.device device c.fail.new.self c.requires is c.args.moment fail.zones fail.faults fail.no_fewer fail.failures fail.lost)

@@ -1,16 +1,19 @@
-use Rattle.std.proofs.Common.{ℕ, ◌∙◌, ap, inl, inr, min, length}
+use Rattle.std.proofs.Common.{◌∙◌, ap, refl}
+use Rattle.zone_bay.specs.Contents.{Contents}
 use Rattle.bay_memory.specs.declared.asked.Asked.{Asked}
+use Rattle.bay_memory.specs.Operation.{call_of, done_unless, put_by}
 use Rattle.bay_memory.specs.MemoryBay.{contents_of, firm_of}
-use Rattle.bay_memory.proofs.Kept.{all_with, part_done, kept_pair, asked_same}
+use Rattle.bay_memory.proofs.Kept.{kept_all, kept_pair, asked_same}
 use Rattle.bay_memory.proofs.memory_bay.MemoryBay.take_image.Goals as goal
-use Rattle.bay_memory.proofs.memory_bay.MemoryBay.take_image.Goals.{then-due, else-due}
 
-pub returns-clause-done : goal.returns-clause-done
-returns-clause-done c = λ asked is at_it.
-    let bytes = c.args.bytes.now in
-    let same = ap (λ (a : Asked). a.bytes) (asked_same (c.in-Some.is) is) in
-    let done = part_done c.args.due c.if-due.done asked.bytes bytes (elim c.if-due.branch [
-      | then-due w ↦ inl (w.if-due.true, w.done-is)
-      | else-due w ↦ inr (w.if-due.false, w.done-is ∙ w.min-done.ensures ∙ ap (λ (n : ℕ). min (length bytes) n) same)
-    ]) in
-    kept_pair _ _ _ _ c.in_ok-image.ensures.shape (c.in_ok-image.ensures.bytes ∙ all_with (contents_of c.args.self.now) (firm_of c.args.self.now) c.args.device c.args.zone _ _ done)
+pub returns-clause-image : goal.returns-clause-image
+returns-clause-image c =
+    let held = contents_of c.args.self.now in
+    record {
+      not_asked = λ not. absurd (not (c.in-Some.asked, c.in-Some.is, c.if-asked-self.true));
+      no_longer = λ asked. refl;
+      done = λ asked is at_it. kept_pair _ _ _ _ c.in_ok-image.ensures.shape
+          (c.in_ok-image.ensures.bytes ∙ ap (λ (h : Contents). put_by c.done.result h) (kept_all held (firm_of c.args.self.now)) ∙ c.done.ensures.made_by held
+          ∙ ap (λ (a : Asked). done_unless c.args.due (call_of c.args.operation) a.bytes held) (asked_same c.in-Some.is is));
+      failed = λ asked. tt;
+    }

@@ -1,32 +1,15 @@
-use Rattle.bay_memory.specs.MemoryBay.{bay_views}
-use Rattle.bay_memory.proofs.Calls.{on_err, failed_time, failed_image, told_kept, firm_kept, next_of, unchanged_time, unchanged_image}
+use Rattle.std.proofs.Common.{◌∙◌, refl, ap, List, ℕ, length}
+use Rattle.std.specs.Result.{is_ok}
+use Rattle.zone_bay.specs.Contents.{Contents}
+use Rattle.zone_bay.specs.Bay.{Written}
+use Rattle.bay_memory.specs.MemoryBay.{state_of}
+use Rattle.bay_memory.proofs.Calls.{makes_as, held_same}
 use Rattle.bay_memory.proofs.memory_bay.MemoryBayBay.written.Goals as goal
 
-pub returns-in_err-begin-clause-time : goal.returns-in_err-begin-clause-time
-returns-in_err-begin-clause-time c =
-    let begin = c.begin.ensures in
-    failed_time c.from_residual.result c.from_residual.ensures.0 c.args.self.now c.begin.new.self begin.tracks begin.call.later begin.call.no_earlier (λ held. held)
+pub returns-in_err-make-clause-call : goal.returns-in_err-make-clause-call
+returns-in_err-make-clause-call c = makes_as (Written c.args.device c.args.zone) (state_of c.args.self.now) (state_of c.make.new.self) _ c.from_residual.result c.from_residual.ensures.0 c.in_err-make.ensures.call
 
-pub returns-in_err-begin-clause-image : goal.returns-in_err-begin-clause-image
-returns-in_err-begin-clause-image c =
-    let begin = c.begin.ensures in
-    failed_image c.from_residual.result c.from_residual.ensures.0 c.args.self.now c.begin.new.self begin.tracks begin.call.later begin.call.no_earlier c.args.device c.args.zone _ begin.not_asked begin.no_longer c.in_err-begin.ensures.failed
-
-pub returns-clause-same : goal.returns-clause-same
-returns-clause-same c = told_kept (bay_views c.args.self.now) (bay_views c.begin.new.self) c.begin.ensures.tracks
-
-pub returns-clause-firm : goal.returns-clause-firm
-returns-clause-firm c = firm_kept (bay_views c.args.self.now) (bay_views c.begin.new.self) c.begin.ensures.tracks
-
-pub returns-clause-time : goal.returns-clause-time
-returns-clause-time c =
-    let begin = c.in_ok-begin.ensures in
-    unchanged_time _ c.args.self.now c.begin.new.self begin.tracks (next_of _ c.args.device c.args.self.now c.begin.new.self begin.call) begin.call.later
-
-pub returns-clause-image : goal.returns-clause-image
-returns-clause-image c =
-    let begin = c.in_ok-begin.ensures in
-    unchanged_image _ c.args.self.now c.begin.new.self begin.tracks (next_of _ c.args.device c.args.self.now c.begin.new.self begin.call) begin.call.later c.args.device c.args.zone begin.not_asked begin.no_longer begin.done
-
-pub returns-in_err-begin-clause-count : goal.returns-in_err-begin-clause-count
-returns-in_err-begin-clause-count c = on_err c.from_residual.result c.in_err-begin.ensures.count
+pub returns-clause-length : goal.returns-clause-length
+returns-clause-length c =
+    let same = held_same (Written c.args.device c.args.zone) c.args.self.now c.make.new.self c.make.result (ap is_ok c.in_ok-make.was) (λ held. refl) c.make.ensures.call in
+    ap length c.held.ensures ∙ ap (λ (held : Contents). length (held c.args.device c.args.zone)) same
