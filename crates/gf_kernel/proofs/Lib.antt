@@ -1,1 +1,3 @@
-pub mod Doubles
+pub mod LaneLemmas
+pub mod Products
+pub mod RowLemmas
