@@ -2,6 +2,8 @@ pub mod Interpolation
 pub mod Factors
 pub mod Codes
 pub mod Sources
+pub mod Sums
+pub mod Combination
 pub mod Pieces
 pub mod Payloads
 pub mod Parts

@@ -1,11 +1,12 @@
-ghost use Rattle.std.specs.Prelude.{◌≡◌, ◌+◌, ◌*◌, ◌<◌, ◌≤◌, length};
+ghost use Rattle.std.specs.Prelude.{◌≡◌, ◌+◌, ◌*◌, ◌<◌, ◌≤◌, ℕ, [], length, slice_index_or};
+ghost use Rattle.rs_code.specs.Factor.{AreFactors};
 ghost use Rattle.rs_code.specs.Fragments.{AreIndexes, GivesFragment, HasCode, sources};
 
-use crate::factor::factor;
-use gf_kernel::mul_add;
+use crate::combine::combine;
+use crate::factor::{MOST, factors_of};
 
 /// The indexes of fragments.
-const INDEXES: [u8; 20] = [
+const INDEXES: [u8; MOST] = [
     0, 1, 2, 3, 4, 5, 6, 7, 8, 9, 10, 11, 12, 13, 14, 15, 16, 17, 18, 19,
 ];
 
@@ -17,9 +18,12 @@ pub struct Code {
     pub k: u8,
     /// How many fragments of parity there are.
     pub p: u8,
+    /// The factors of the source fragments in each of parity, in order of index.
+    factors: [[u8; MOST]; MOST],
     ghost has_source: { 1 ≤ k },
     ghost has_parity: { 1 ≤ p },
     ghost few: { k + p ≤ 20 },
+    ghost parity_factors: { (j : ℕ) → j < p → AreFactors (sources k) (k + j) (slice_index_or factors j []) },
 }
 
 impl Code {
@@ -31,7 +35,12 @@ impl Code {
         ensures k { result.k ≡ k }
         ensures p { result.p ≡ p }
     {
-        Code { k, p }
+        let have = &INDEXES[..k as usize];
+        let mut factors = [[0; MOST]; MOST];
+        for j in 0..p {
+            factors[j as usize] = factors_of(have, k + j);
+        }
+        Code { k, p, factors }
     }
 
     /// How many fragments there are.
@@ -39,6 +48,16 @@ impl Code {
         ensures { result ≡ self.now.k + self.now.p }
     {
         self.k + self.p
+    }
+
+    /// The factors of the source fragments in parity fragment `j`.
+    pub(crate) fn parity_factors(&self, j: u8) -> &[u8]
+        requires { j < self.now.p }
+        ensures all { length result.now ≡ self.now.k }
+        ensures factors { AreFactors (sources self.now.k) (self.now.k + j) result.now }
+    {
+        let factors = &self.factors[j as usize];
+        &factors[..self.k as usize]
     }
 
     /// Writes parity fragment `j`, whose index is `k + j`. `shards` are the k source fragments of `f` bytes each, in order
@@ -51,8 +70,7 @@ impl Code {
             GivesFragment code.k (code.k + code.p) f (sources code.k) shards.now (code.k + j) out.new }
         ensures code { let code = self.now in HasCode code.k (code.k + code.p) f (sources code.k) shards.now }
     {
-        let have = &INDEXES[..self.k as usize];
-        self.fragment_into(have, shards, f, self.k + j, out);
+        combine(self.parity_factors(j), shards, f, out);
     }
 
     /// Writes the fragment of index `want`, source or parity. `fragments` are those of the k indexes in `have`, in its order,
@@ -66,10 +84,12 @@ impl Code {
             GivesFragment code.k (code.k + code.p) f have.now fragments.now want out.new }
         ensures code { let code = self.now in HasCode code.k (code.k + code.p) f have.now fragments.now }
     {
-        out.fill(0);
-        for (i, own) in have.iter().enumerate() {
-            let from = i * f;
-            mul_add(out, &fragments[from..from + f], factor(have, *own, want));
+        if let Some(place) = have.iter().position(|own| *own == want) {
+            let from = place * f;
+            out.copy_from_slice(&fragments[from..from + f]);
+        } else {
+            let factors = factors_of(have, want);
+            combine(&factors[..have.len()], fragments, f, out);
         }
     }
 }

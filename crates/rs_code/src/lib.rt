@@ -4,6 +4,7 @@
 mod blob;
 mod code;
 mod coded;
+mod combine;
 mod factor;
 mod laws;
 mod parity;

@@ -4,9 +4,9 @@ use std::test::Fail;
 #[test]
 fn parity_of_two(rt: HostRuntime) {
     let code = Code::new(2, 1);
-    for (shards, parity) in [([1, 0], 3), ([0, 1], 2), ([0x80, 0], 0x9d)] {
+    for (fragments, parity) in [([1, 0], 3), ([0, 1], 2), ([0x80, 0], 0x9d)] {
         let mut out = [0];
-        code.parity_into(0, &shards, 1, &mut out);
+        code.parity_into(0, &fragments, 1, &mut out);
         assert_eq!(rt; out[0], parity);
     }
 }
@@ -14,16 +14,16 @@ fn parity_of_two(rt: HostRuntime) {
 #[test]
 fn parity_of_three(rt: HostRuntime) {
     let code = Code::new(3, 2);
-    for (shards, first, second) in [
+    for (fragments, first, second) in [
         ([1, 0, 0], 0x01, 0x0f),
         ([0, 1, 0], 0x01, 0x08),
         ([0, 0, 1], 0x01, 0x06),
         ([1, 1, 1], 0x01, 0x01),
     ] {
         let mut out = [0];
-        code.parity_into(0, &shards, 1, &mut out);
+        code.parity_into(0, &fragments, 1, &mut out);
         assert_eq!(rt; out[0], first);
-        code.parity_into(1, &shards, 1, &mut out);
+        code.parity_into(1, &fragments, 1, &mut out);
         assert_eq!(rt; out[0], second);
     }
 }

@@ -1,8 +1,7 @@
-use Rattle.std.proofs.Common.{◌≡◌, ℕ, ◌+◌, ◌<◌, List}
-use Rattle.rs_code.specs.Fragments.{piece, fragment_at, IsCode, HoldsFragments, sources}
+use Rattle.std.proofs.Common.{ℕ, ◌+◌, ◌*◌, ◌<◌}
+use Rattle.rs_code.specs.Fragments.{piece, GivesFragment, sources}
 use Rattle.rs_code.proofs.parity.parity_of.Given as goal
 
-abbrev pub invariant-loop-j : goal.invariant-loop-j
-invariant-loop-j l =
-    (fragments : List (List ℕ)) → IsCode l.code.k (l.code.k + l.code.p) l.f fragments → HoldsFragments fragments l.f (sources l.code.k) l.shards
-    → (i : ℕ) → i < l.j → piece l.parity l.f i ≡ fragment_at fragments (l.code.k + i)
+abbrev pub invariant-loop-pair : goal.invariant-loop-pair
+invariant-loop-pair l =
+    (i : ℕ) → i < 2 * l.pair → GivesFragment l.code.k (l.code.k + l.code.p) l.f (sources l.code.k) l.fragments (l.code.k + i) (piece l.parity l.f i)
