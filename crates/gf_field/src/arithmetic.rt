@@ -4,7 +4,7 @@ ghost use Rattle.std.specs.Prelude.{◌≡◌, ◌≢◌, ◌<◌};
 ghost use Rattle.gf_field.specs.Product.{product};
 ghost use Rattle.gf_field.specs.Power.{power_of_two};
 
-use crate::tables::{LOGARITHM, POWER, POWERS};
+use crate::tables::{LOGARITHM, ORDER, POWER};
 
 /// The product of two bytes: `docs/FORMATS.md`, "The code".
 pub fn mul(a: u8, b: u8) -> u8
@@ -21,7 +21,7 @@ pub fn inv(a: u8) -> u8
     requires { a ≢ 0 }
     ensures { product a result ≡ 1 }
 {
-    power(POWERS - logarithm(a))
+    power(ORDER - logarithm(a))
 }
 
 /// The byte whose product with `b` is `a`.
@@ -32,7 +32,7 @@ pub fn div(a: u8, b: u8) -> u8
     if a == 0 {
         return 0;
     }
-    power(logarithm(a) + POWERS - logarithm(b))
+    power(logarithm(a) + ORDER - logarithm(b))
 }
 
 /// 2 to that power.

@@ -1,7 +1,8 @@
 //! The powers of 2, and their exponents.
 
-/// How many elements other than 0 the field has. Each of them is one of that many powers of 2.
-pub const POWERS: usize = 255;
+/// The order of 2, the least of its powers above 0 that is 1. So many elements other than 0 the field has, each of them a
+/// power of 2.
+pub const ORDER: usize = 255;
 
 /// The powers of 2: at `i` stands 2 to the power `i`. They come twice, so that the sum of two logarithms is an index.
 pub static POWER: [u8; 510] = [
@@ -32,7 +33,8 @@ pub static POWER: [u8; 510] = [
     11, 22, 44, 88, 176, 125, 250, 233, 207, 131, 27, 54, 108, 216, 173, 71, 142,
 ];
 
-/// The logarithms to base 2: at each byte but 0 stands the power of 2, below 255, that it is.
+/// The logarithms to base 2: at each byte but 0 stands the power of 2, below 255, that it is. 0 is none of them: what
+/// stands there is never read.
 pub static LOGARITHM: [u8; 256] = [
     0, 0, 1, 25, 2, 50, 26, 198, 3, 223, 51, 238, 27, 104, 199, 75, 4, 100, 224, 14, 52, 141, 239,
     129, 28, 193, 105, 248, 200, 8, 76, 113, 5, 138, 101, 47, 225, 36, 15, 33, 53, 147, 142, 218,
