@@ -4,42 +4,37 @@ ghost use Rattle.std.specs.Prelude.{◌≡◌, ◌*◌, ◌%◌, ◌^◌, IfOk, 
 
 use std::alloc::{AllocError, Global};
 
-/// The bytes of a row.
-const ROW: usize = 65_536;
-
 const PRIME: u64 = 1_099_511_628_211;
 
-/// A row of bytes that look like noise, of which `step` makes several.
-pub fn filled_row(alloc: Global, step: u32) -> Result<Vec<u8>, AllocError>
-    ensures { IfOk result (λ row. vec_len row ≡ ROW) }
+/// So many bytes that look like noise, of which `seed` makes several rows.
+pub fn filled_row(alloc: Global, bytes: usize, seed: u32) -> Result<Vec<u8>, AllocError>
+    ensures { IfOk result (λ row. vec_len row ≡ bytes) }
 {
-    let mut row = Vec::with_capacity(alloc, ROW)?;
-    let mut state = step;
-    for _ in 0..ROW {
+    let mut row = Vec::with_capacity(alloc, bytes)?;
+    let mut state = seed;
+    for _ in 0..bytes {
         state = state.wrapping_mul(1_103_515_245).wrapping_add(12_345);
         row.push((state >> 24) as u8)?;
     }
     Ok(row)
 }
 
-/// A number that any change of a byte is likely to change: for each byte, times a prime, and the byte added by `^`.
-pub fn checksum(bytes: &[u8]) -> u64
-    ensures { result ≡ fold (λ sum byte. bit_xor (sum * PRIME % 2 ^ 64) byte) 0 bytes.now }
+/// A number that any change of a byte is likely to change: from `start` on, for each byte, times a prime, and the byte added
+/// by `^`.
+pub fn checksum(start: u64, bytes: &[u8]) -> u64
+    ensures { result ≡ fold (λ sum byte. bit_xor (sum * PRIME % 2 ^ 64) byte) start bytes.now }
 {
     bytes.iter().fold(
-        0,
+        start,
         |sum: u64, byte| sum.wrapping_mul(PRIME) ^ u64::from(*byte),
     )
 }
 
-/// That many rows, one after another, each another one.
-pub fn filled_rows(alloc: Global, rows: u8) -> Result<Vec<u8>, AllocError>
-    ensures { IfOk result (λ bytes. vec_len bytes ≡ rows * ROW) }
-{
-    let mut bytes = Vec::new(alloc);
-    for step in 0..rows {
-        let row = filled_row(alloc, u32::from(step) + 40_503)?;
-        bytes.extend_from_slice(row.as_slice())?;
+/// Changes a byte, another one in each round.
+pub fn change_byte(row: &mut [u8], round: u32) {
+    let len = row.len();
+    if len > 0 {
+        let place = round as usize % len;
+        row[place] = row[place].wrapping_add(1);
     }
-    Ok(bytes)
 }

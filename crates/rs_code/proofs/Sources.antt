@@ -14,17 +14,21 @@ use Rattle.rs_code.proofs.Interpolation.{factor_of, combined}
 pub first_indexes : (k : ℕ) → k ≤ 20 → take k INDEXES ≡ sources k
 first_indexes k h = take-map-range_with_len (λ i. i) 0 20 k h ∙ map-id (range_with_len 0 k)
 
-pub sources_are_indexes : (k n : ℕ) → k ≤ n → AreIndexes k n (sources k)
-sources_are_indexes k n h =
-    let l = length-range_with_len 0 k in
+-- neighbouring indexes
+pub range_is_indexes : (a k n : ℕ) → a + k ≤ n → AreIndexes k n (range_with_len a k)
+range_is_indexes a k n h =
+    let l = length-range_with_len a k in
     record {
       count = l;
       distinct =
-          IsDistinct-from_apart nat_eq (range_with_len 0 k)
-          (λ i j d lt within. ne_eqb (get_or (range_with_len 0 k) i d) (get_or (range_with_len 0 k) j d)
-          (λ e. let a = get_or-range_with_len 0 k i d (omega arith) in let b = get_or-range_with_len 0 k j d (omega arith) in omega arith));
-      below = λ i d within. let e = get_or-range_with_len 0 k i d (omega arith) in omega arith;
+          IsDistinct-from_apart nat_eq (range_with_len a k)
+          (λ i j d lt within. ne_eqb (get_or (range_with_len a k) i d) (get_or (range_with_len a k) j d)
+          (λ e. let p = get_or-range_with_len a k i d (omega arith) in let q = get_or-range_with_len a k j d (omega arith) in omega arith));
+      below = λ i d within. let e = get_or-range_with_len a k i d (omega arith) in omega arith;
     }
+
+pub sources_are_indexes : (k n : ℕ) → k ≤ n → AreIndexes k n (sources k)
+sources_are_indexes k n h = range_is_indexes 0 k n (omega arith)
 
 -- what was added, with one more value times its factor, and what is still to be added
 pub one_added : (points : List ℕ) (y : ℕ → ℕ) (x i added : ℕ) → i < length points

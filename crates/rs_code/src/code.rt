@@ -1,8 +1,8 @@
 ghost use Rattle.std.specs.Prelude.{◌≡◌, ◌+◌, ◌*◌, ◌<◌, ◌≤◌, ℕ, [], length, slice_index_or};
 ghost use Rattle.rs_code.specs.Factor.{AreFactors};
-ghost use Rattle.rs_code.specs.Fragments.{AreIndexes, GivesFragment, HasCode, sources};
+ghost use Rattle.rs_code.specs.Fragments.{AreIndexes, GivesFragment, HasCode, piece, sources};
 
-use crate::combine::combine;
+use crate::combine::{combine, combine_both};
 use crate::factor::{MOST, factors_of};
 
 /// The indexes of fragments.
@@ -51,7 +51,7 @@ impl Code {
     }
 
     /// The factors of the source fragments in parity fragment `j`.
-    pub(crate) fn parity_factors(&self, j: u8) -> &[u8]
+    fn parity_factors(&self, j: u8) -> &[u8]
         requires { j < self.now.p }
         ensures all { length result.now ≡ self.now.k }
         ensures factors { AreFactors (sources self.now.k) (self.now.k + j) result.now }
@@ -71,6 +71,41 @@ impl Code {
         ensures code { let code = self.now in HasCode code.k (code.k + code.p) f (sources code.k) shards.now }
     {
         combine(self.parity_factors(j), shards, f, out);
+    }
+
+    /// Writes all parity fragments, one after another in order of index: two at a time, and the last of an odd number by
+    /// itself. `shards` are the k source fragments of `f` bytes each, in order of index. Takes no memory.
+    pub fn parities_into(&self, shards: &[u8], f: usize, out: &mut [u8])
+        requires size { length shards.now ≡ self.now.k * f }
+        requires room { length out.old ≡ self.now.p * f }
+        ensures fragments { let code = self.now in (j : ℕ) → j < code.p
+            → GivesFragment code.k (code.k + code.p) f (sources code.k) shards.now (code.k + j) (piece out.new f j) }
+        ensures code { let code = self.now in HasCode code.k (code.k + code.p) f (sources code.k) shards.now }
+    {
+        for pair in 0..self.p / 2 {
+            let j = 2 * pair;
+            let from = j as usize * f;
+            self.two_parities_into(j, shards, f, &mut out[from..from + 2 * f]);
+        }
+        if self.p % 2 == 1 {
+            let j = self.p - 1;
+            let from = j as usize * f;
+            self.parity_into(j, shards, f, &mut out[from..from + f]);
+        }
+    }
+
+    /// Writes parity fragments `j` and `j + 1`, one after the other.
+    fn two_parities_into(&self, j: u8, shards: &[u8], f: usize, out: &mut [u8])
+        requires wanted { j + 1 < self.now.p }
+        requires size { length shards.now ≡ self.now.k * f }
+        requires room { length out.old ≡ 2 * f }
+        ensures { let code = self.now in (i : ℕ) → i < 2
+            → GivesFragment code.k (code.k + code.p) f (sources code.k) shards.now (code.k + (j + i)) (piece out.new f i) }
+    {
+        let (first, second) = out.split_at_mut(f);
+        let factors = self.parity_factors(j);
+        let others = self.parity_factors(j + 1);
+        combine_both(factors, others, shards, f, first, second);
     }
 
     /// Writes the fragment of index `want`, source or parity. `fragments` are those of the k indexes in `have`, in its order,

@@ -25,6 +25,9 @@ fn parity_of_three(rt: HostRuntime) {
         assert_eq!(rt; out[0], first);
         code.parity_into(1, &fragments, 1, &mut out);
         assert_eq!(rt; out[0], second);
+        let mut both = [0xff; 2];
+        code.parities_into(&fragments, 1, &mut both);
+        assert_eq!(rt; both, [first, second]);
     }
 }
 

@@ -8,10 +8,10 @@ returns-clause-code c =
     let code = c.args.code.now in
     let few = code.few in
     let fragments = c.split_at_mut-fragments.result.0.now in
-    let parity = c.parity_of.new.parity in
+    let parity = c.parities_into.new.out in
     let total = c.requires in
     let back = c.split_at_mut-fragments.ensures.back_len in
-    let same = c.parity_of.auto.parity in
+    let same = c.parities_into.auto.out in
     pieces_are_code code.k code.p c.args.f (fragments ++ parity) fragments parity (omega arith)
     (front_is_bytes fragments parity (λ i. let fits = c.type_inv.bytes i in omega arith))
-    c.split_at_mut-fragments.ensures.front_len (omega arith) refl c.parity_of.ensures
+    c.split_at_mut-fragments.ensures.front_len (omega arith) refl c.parities_into.ensures.fragments
