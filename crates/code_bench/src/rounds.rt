@@ -4,7 +4,7 @@
 ghost use Rattle.std.specs.Prelude.{◌≡◌};
 
 use crate::case::{MOST, Shape};
-use crate::rows::{change_byte, checksum, filled_row};
+use crate::rows::{checksum, filled_row};
 use gf_kernel::mul_add;
 use rs_code::{Code, Coded};
 use std::alloc::{AllocError, Global};
@@ -18,7 +18,7 @@ const LEFT: [u8; 19] = [
 ];
 
 /// Adds a row to another one that many times, each time with another factor.
-pub fn kernel_rounds(alloc: Global, rounds: u32) -> Result<u64, AllocError> {
+pub(crate) fn kernel_rounds(alloc: Global, rounds: u32) -> Result<u64, AllocError> {
     let src = filled_row(alloc, MOST, SEED)?;
     let mut out = filled_row(alloc, MOST, 60_493)?;
     for round in 0..rounds {
@@ -27,13 +27,22 @@ pub fn kernel_rounds(alloc: Global, rounds: u32) -> Result<u64, AllocError> {
     Ok(checksum(0, out.as_slice()))
 }
 
+/// Changes a byte of the row, another one in each round.
+fn change_byte(row: &mut [u8], round: u32) {
+    let len = row.len();
+    if len > 0 {
+        let place = round as usize % len;
+        row[place] = row[place].wrapping_add(1);
+    }
+}
+
 /// The factor of a round: each byte but 0 in turn.
 fn factor_of(round: u32) -> u8 {
     (round % 255 + 1) as u8
 }
 
 /// Makes all parity of k fragments that many times.
-pub fn parity_rounds(alloc: Global, shape: Shape, rounds: u32) -> Result<u64, AllocError> {
+pub(crate) fn parity_rounds(alloc: Global, shape: Shape, rounds: u32) -> Result<u64, AllocError> {
     let f = shape.fragment;
     let mut fragments = filled_row(alloc, shape.code.k as usize * f, SEED)?;
     let mut parity = Vec::from_elem(alloc, 0, shape.code.p as usize * f)?;
@@ -47,7 +56,7 @@ pub fn parity_rounds(alloc: Global, shape: Shape, rounds: u32) -> Result<u64, Al
 }
 
 /// Codes a payload of k fragments that many times.
-pub fn coded_rounds(alloc: Global, shape: Shape, rounds: u32) -> Result<u64, AllocError> {
+pub(crate) fn coded_rounds(alloc: Global, shape: Shape, rounds: u32) -> Result<u64, AllocError> {
     let code = shape.code;
     let mut payload = filled_row(alloc, code.k as usize * shape.fragment, SEED)?;
     let mut sum = 0;
@@ -73,7 +82,7 @@ fn parity_checksum(code: &Code, coded: &Coded) -> u64
 }
 
 /// Makes source fragment 0 that many times, from the others and the first of parity, which are noise too.
-pub fn rebuilt_rounds(alloc: Global, shape: Shape, rounds: u32) -> Result<u64, AllocError> {
+pub(crate) fn rebuilt_rounds(alloc: Global, shape: Shape, rounds: u32) -> Result<u64, AllocError> {
     let f = shape.fragment;
     let k = shape.code.k as usize;
     let mut fragments = filled_row(alloc, k * f, SEED)?;

@@ -29,12 +29,3 @@ pub fn checksum(start: u64, bytes: &[u8]) -> u64
         |sum: u64, byte| sum.wrapping_mul(PRIME) ^ u64::from(*byte),
     )
 }
-
-/// Changes a byte, another one in each round.
-pub fn change_byte(row: &mut [u8], round: u32) {
-    let len = row.len();
-    if len > 0 {
-        let place = round as usize % len;
-        row[place] = row[place].wrapping_add(1);
-    }
-}

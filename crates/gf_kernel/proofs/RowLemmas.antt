@@ -1,5 +1,5 @@
 -- A row, made from its beginning on.
-use Rattle.std.proofs.Common.{◌≡◌, ℕ, ◌+◌, ◌-◌, ◌*◌, ◌/◌, ◌<◌, ◌≤◌, List, length, Bool, get_or, refl, ap, ◌∙◌, arith, inl, inr}
+use Rattle.std.proofs.Common.{◌≡◌, ℕ, ◌+◌, ◌-◌, ◌*◌, ◌/◌, ◌<◌, ◌≤◌, List, length, Bool, get_or, ap, ◌∙◌, arith, inl, inr}
 use Rattle.std.proofs.lemmas.Bool.{cases_lt}
 use Rattle.std.specs.Simd.Lanes.{put_chunk}
 use Rattle.std.proofs.lemmas.Simd.{get_or-put_chunk_below, get_or-put_chunk_at, get_or-put_chunk_above, length-put_chunk}
@@ -7,9 +7,6 @@ use Rattle.gf_kernel.specs.Lanes.{HasLanes}
 use Rattle.gf_kernel.specs.Rows.{kept, made_byte, IsMadeBelow}
 use Rattle.gf_kernel.proofs.LaneLemmas.{HasLanes-same}
 use Rattle.std.specs.Int.Bits.{bit_xor}
-
-pub made_of_none : (f : ℕ → ℕ) (row : List ℕ) → IsMadeBelow 0 f row row
-made_of_none f row = record { made = λ i l. absurd (omega arith); same = λ i l. refl }
 
 -- the lanes for a place of a row that is as it was from there on
 same_lanes : (keep : Bool) (times : ℕ → ℕ) (old row src lanes : List ℕ) (at : ℕ) → IsMadeBelow at (made_byte keep times old src) old row

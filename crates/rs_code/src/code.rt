@@ -100,7 +100,8 @@ impl Code {
         requires size { length shards.now ≡ self.now.k * f }
         requires room { length out.old ≡ 2 * f }
         ensures { let code = self.now in (i : ℕ) → i < 2
-            → GivesFragment code.k (code.k + code.p) f (sources code.k) shards.now (code.k + (j + i)) (piece out.new f i) }
+            → GivesFragment code.k (code.k + code.p) f (sources code.k) shards.now (code.k + (j + i))
+            (piece out.new f i) }
     {
         let (first, second) = out.split_at_mut(f);
         let factors = self.parity_factors(j);
