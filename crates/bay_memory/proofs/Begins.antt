@@ -1,18 +1,16 @@
 -- The beginning of a call, from the image that it took.
-use Rattle.std.proofs.Common.{Bool, true, false, ◌≡◌, ◌⊎◌, ℕ, ◌+◌, ◌≤◌, List, Option, None, Result, Ok, Err, refl, subst, ◌∙◌, ap, inl, inr}
+use Rattle.std.proofs.Common.{Bool, true, false, ◌≡◌, ◌⊎◌, ℕ, ◌≤◌, Option, None, Result, Ok, Err, refl, subst, ◌∙◌, ap, inl, inr}
 use Rattle.std.specs.Prelude.{option_map}
-use Rattle.std.specs.Result.{is_ok, is_err, OnOk, OnErr}
-use Rattle.zone_bay.specs.Outside.{counted, last}
-use Rattle.zone_bay.specs.Contents.{Contents}
+use Rattle.std.specs.Result.{is_err, OnErr}
+use Rattle.zone_bay.specs.Outside.{counted}
 use Rattle.zone_bay.specs.Bay.{Call, Written, Read, Append, Reset, Flush, Replace, reads_after}
-use Rattle.bay_memory.specs.Operation.{done_by, done_unless}
-use Rattle.bay_memory.specs.Device.{View, lost_after}
-use Rattle.bay_memory.specs.Array.{view_at, ArrayGoes, ArrayMakes, KeepsTracks, AllKeepFailures, lost_in, lost_then}
+use Rattle.bay_memory.specs.Operation.{done_unless}
+use Rattle.bay_memory.specs.Device.{lost_after}
+use Rattle.bay_memory.specs.Array.{ArrayMakes, KeepsTracks, AllKeepFailures, lost_in, lost_then}
 use Rattle.bay_memory.specs.Views.{views_of, shape_of}
 use Rattle.bay_memory.specs.Image.{image_shape, image_bytes}
-use Rattle.bay_memory.specs.MemoryBay.{bay_views, bay_shape, bay_moment, reads_of, contents_of, state_of, lost_of, listed_calls, asked_of, stored_of, kept_of, IsAsked, KeepsImage, FindsNoMemory, TakesImage, Begins}
+use Rattle.bay_memory.specs.MemoryBay.{bay_views, bay_shape, bay_moment, reads_of, contents_of, state_of, listed_calls, asked_of, stored_of, kept_of, IsAsked, KeepsImage, FindsNoMemory, TakesImage, Begins}
 use Rattle.bay_memory.proofs.Results.{of_ok, is_ok_not}
-use Rattle.bay_memory.specs.declared.asked.Asked.{Asked}
 use Rattle.bay_memory.specs.declared.image.Image.{Image}
 use Rattle.bay_memory.specs.declared.array.Array.{Array}
 use Rattle.bay_memory.specs.declared.memory_bay.MemoryBay.{MemoryBay}

@@ -1,12 +1,11 @@
 -- Copies of zones and devices, made one after another, and what an array of such copies holds.
-use Rattle.std.proofs.Common.{◌≡◌, ◌≢◌, ◌⊎◌, ℕ, ◌+◌, ◌*◌, ◌<◌, ◌≤◌, ◌==◌, ◌&&◌, zero, suc, min, List, [], ◌∷◌, ◌++◌, length, get_or, map, replicate, take, Option, Some, None, refl, sym, subst, ◌∙◌, ap, arith, inl, inr}
+use Rattle.std.proofs.Common.{◌≡◌, ◌≢◌, ◌⊎◌, ℕ, ◌+◌, ◌*◌, ◌<◌, ◌≤◌, zero, suc, min, List, [], ◌∷◌, ◌++◌, length, get_or, map, replicate, take, Option, Some, None, refl, sym, subst, ◌∙◌, ap, arith, inl, inr}
 use Rattle.std.specs.List.{Contains}
 use Rattle.std.proofs.lemmas.List.{get_or_append_left, get_or_push, get_or_past, get_or-replicate, length-append, length-map, length-replicate, length-take, map-append, take_all, take_min, append-nil}
 use Rattle.std.proofs.lemmas.Bool.{cases_eq, cases_lt, eq-eqb, ne_eqb}
-use Rattle.zone_bay.specs.Contents.{Shape, Contents, Lengths, appended}
+use Rattle.zone_bay.specs.Contents.{Shape, Contents, Lengths}
 use Rattle.zone_bay.proofs.Images.{same_contents, missing_hold_nothing, others_keep_theirs}
 use Rattle.bay_memory.specs.declared.crash.Crash.{Crash}
-use Rattle.bay_memory.specs.declared.keep.Keep.{Keep}
 use Rattle.bay_memory.specs.declared.operation.Put.{Put}
 use Rattle.bay_memory.specs.declared.device.Device.{Device}
 use Rattle.bay_memory.specs.declared.zone.Zone.{Zone}

@@ -1,5 +1,5 @@
 -- A call on one device, as a change of what the array tells.
-use Rattle.std.proofs.Common.{Result, Ok, Err, ◌≡◌, ◌≢◌, ℕ, ◌+◌, ◌*◌, ◌<◌, ◌≤◌, ◌==◌, Bool, true, false, List, length, get_or, set, map, cond, refl, sym, subst, ◌∙◌, ap, arith, inl, inr}
+use Rattle.std.proofs.Common.{Result, Ok, Err, ◌≡◌, ◌≢◌, ℕ, ◌*◌, ◌<◌, ◌≤◌, ◌==◌, Bool, true, false, List, length, get_or, set, map, cond, refl, sym, subst, ◌∙◌, ap, arith, inl, inr}
 use Rattle.std.specs.Prelude.{[]}
 use Rattle.std.specs.Result.{is_ok, OnOk, OnErr}
 use Rattle.std.proofs.lemmas.List.{get_or-map, map-set, length-map, length-set, length-append}

@@ -3,6 +3,7 @@ pub mod Calls
 pub mod Copies
 pub mod Devices
 pub mod Kept
+pub mod Made
 pub mod Past
 pub mod Results
 pub mod Timeline

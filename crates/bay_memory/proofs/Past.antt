@@ -1,6 +1,5 @@
 -- How a change adds to a zone's past.
-use Rattle.std.proofs.Common.{Result, Ok, Err, cond, zero, ◌≡◌, ℕ, ◌+◌, ◌<◌, ◌≤◌, suc, List, [], ◌∷◌, ◌++◌, length, get_or, drop, sym, subst, ◌∙◌, ap, arith, inl, inr}
-use Rattle.std.specs.Result.{is_ok, IsOk}
+use Rattle.std.proofs.Common.{zero, ◌≡◌, ℕ, ◌+◌, ◌<◌, ◌≤◌, suc, List, [], ◌∷◌, ◌++◌, length, get_or, drop, sym, subst, ◌∙◌, ap, arith, inl, inr}
 use Rattle.std.proofs.lemmas.Bool.{cases_lt, lt-ltb, le-ltb}
 use Rattle.std.proofs.lemmas.List.{take-append-le, append-nil, take_all, drop-append-le, drop_all, length-drop}
 use Rattle.bay_memory.specs.declared.was.Was.{Was}

@@ -1,14 +1,14 @@
 -- What crashes may have left, after a call: until then each zone held what it held.
 use Rattle.std.proofs.Common.{◌≡◌, ◌⊎◌, ℕ, ◌+◌, ◌<◌, ◌≤◌, List, Result, Ok, Err, refl, sym, subst, ◌∙◌, ap, arith, inl, inr}
-use Rattle.std.specs.Prelude.{MatchResult}
+use Rattle.std.specs.Prelude.{MatchResult, OnOk}
 use Rattle.std.proofs.lemmas.Bool.{cases_lt}
 use Rattle.zone_bay.specs.Outside.{counted, last}
 use Rattle.zone_bay.specs.Contents.{Contents, Lengths}
 use Rattle.zone_bay.specs.Images.{IsFirmPrefix, IsImage, Instant, Between, During}
-use Rattle.zone_bay.specs.Bay.{Elapses, LeftByCall}
+use Rattle.zone_bay.specs.Bay.{Elapses, LeftInCall, LeftByCall}
 use Rattle.bay_memory.specs.Past.{State, now, held_at}
 use Rattle.bay_memory.specs.Array.{track_at}
-use Rattle.bay_memory.specs.MemoryBay.{bay_views, firm_of, contents_of, contents_then, firm_then, left_of, bay_moment, state_of}
+use Rattle.bay_memory.specs.MemoryBay.{bay_views, firm_of, contents_of, left_of, bay_moment, state_of}
 use Rattle.bay_memory.specs.Laws.{held_steady}
 use Rattle.bay_memory.specs.declared.memory_bay.MemoryBay.{MemoryBay}
 
@@ -97,28 +97,25 @@ module _ (old new : MemoryBay) (until : (d z m : ℕ) → m ≤ bay_moment old �
   abbrev Changed : {T E : Type 0} → (Contents → Contents) → Result T E → Type 0
   Changed change r = MatchResult r (λ _. (bay_moment old < last) × (contents_of new ≡ change (contents_of old))) (λ _. contents_of new ≡ contents_of old)
 
+  in_call_of : {T E : Type 0} (change : Contents → Contents) (r : Result T E) → Changed change r → OnOk r ((image : Contents) → LeftInCall change (state_of old) image → left_of new (During (bay_moment old)) image)
+  in_call_of change (Ok x) changed = λ image left. in_call changed.0 image (subst (λ (c : Contents). IsImage (contents_of old) (firm_of old) image ⊎ IsImage c (firm_of old) image) (sym changed.1) left)
+  in_call_of change (Err e) same = tt
+
+  -- what is held once it is made is what the change makes, or what was held
+  made_in : {T E : Type 0} (change : Contents → Contents) (r : Result T E) → Changed change r → (image : Contents) → IsImage (contents_of new) (firm_of old) image → LeftInCall change (state_of old) image
+  made_in change (Ok x) changed image made = inr (subst (λ (c : Contents). IsImage c (firm_of old) image) changed.1 made)
+  made_in change (Err e) same image made = inl (subst (λ (c : Contents). IsImage c (firm_of old) image) same made)
+
+  by_call : (change : Contents → Contents) → ((image : Contents) → IsImage (contents_of new) (firm_of old) image → LeftInCall change (state_of old) image) → (i : Instant) (image : Contents) → Added i image → LeftByCall change (state_of old) (state_of new) i image
+  by_call change made (Between m) image added = added
+  by_call change made (During m) image added = (added.0, elim (added.1) [ inl was ↦ inl was | inr done ↦ made image done ])
+
   pub elapses : {T E : Type 0} (change : Contents → Contents) (r : Result T E) → Changed change r → Elapses change (state_of old) (state_of new) r
-  elapses change (Ok x) changed = record {
+  elapses change r changed = record {
     keeps = keeps;
-    in_call = λ image left. in_call changed.0 image (subst (λ (c : Contents). IsImage (contents_of old) (firm_of old) image ⊎ IsImage c (firm_of old) image) (sym changed.1) left);
+    in_call = in_call_of change r changed;
     only = λ i image left. elim (only i image left) [
       | inl was ↦ inl was
-      | inr added ↦ inr (by_call i image added)
+      | inr added ↦ inr (by_call change (made_in change r changed) i image added)
     ];
   }
-    where
-      by_call : (i : Instant) (image : Contents) → Added i image → LeftByCall change (state_of old) (state_of new) i image
-      by_call (Between m) image added = added
-      by_call (During m) image added = (added.0, subst (λ (c : Contents). IsImage (contents_of old) (firm_of old) image ⊎ IsImage c (firm_of old) image) changed.1 added.1)
-  elapses change (Err e) same = record {
-    keeps = keeps;
-    in_call = tt;
-    only = λ i image left. elim (only i image left) [
-      | inl was ↦ inl was
-      | inr added ↦ inr (by_call i image added)
-    ];
-  }
-    where
-      by_call : (i : Instant) (image : Contents) → Added i image → LeftByCall change (state_of old) (state_of new) i image
-      by_call (Between m) image added = added
-      by_call (During m) image added = (added.0, elim (added.1) [ inl was ↦ inl was | inr done ↦ inl (subst (λ (c : Contents). IsImage c (firm_of old) image) same done) ])

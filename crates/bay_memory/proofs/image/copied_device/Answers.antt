@@ -1,4 +1,4 @@
-use Rattle.std.proofs.Common.{ℕ, Bool, List, Decides, eqb, refl, ◌≡◌}
+use Rattle.std.proofs.Common.{ℕ, Bool, List, Decides, eqb, ◌≡◌}
 use Rattle.std.specs.List.{Contains, IsAnyAnswer}
 use Rattle.std.proofs.lemmas.List.Elements.{contains_decides, Decides-contains}
 use Rattle.std.proofs.lemmas.Bool.Decides.{Decides-eqb}

@@ -1,6 +1,5 @@
-use Rattle.std.proofs.Common.{◌∙◌, rules, refl, sym, ap, arith, inl, inr}
+use Rattle.std.proofs.Common.{◌∙◌, rules, refl, sym, inl, inr}
 use Rattle.bay_memory.specs.Operation.{call_of}
-use Rattle.bay_memory.specs.Views.{shape_of}
 use Rattle.bay_memory.proofs.Begins.{begins_failed, begins_done}
 use Rattle.bay_memory.proofs.memory_bay.MemoryBay.begin.Goals as goal
 use Rattle.bay_memory.proofs.memory_bay.MemoryBay.begin.Goals.{then-due-via-then-due, then-due-via-else-due+then-is_err}

@@ -1,4 +1,4 @@
-use Rattle.std.proofs.Common.{◌∙◌, refl, ap, List, ℕ, length}
+use Rattle.std.proofs.Common.{◌∙◌, refl, ap, length}
 use Rattle.std.specs.Result.{is_ok}
 use Rattle.zone_bay.specs.Contents.{Contents}
 use Rattle.zone_bay.specs.Bay.{Written}
