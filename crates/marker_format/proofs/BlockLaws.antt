@@ -18,7 +18,7 @@ use Rattle.marker_format.specs.Frame.{AreZeros}
 use Rattle.marker_format.specs.Marker.{IsMarker, spelling_of, marker_at, is_marker}
 use Rattle.marker_format.specs.Block.{block_of, marker_block, marker_in_block}
 use Rattle.marker_format.proofs.MarkerLaws.{zeros_are, are_zeros, marker_at-again, length-spelling_of}
-use Rattle.marker_format.proofs.Tests.{is_marker-true, IsMarker-true}
+use Rattle.marker_format.proofs.MarkerRules.{is_marker-true, IsMarker-true}
 
 code_small : (tag : Tag) → code_of tag < 256
 code_small tags.Marker = omega arith

@@ -3,5 +3,5 @@ pub mod Formats
 pub mod FootLaws
 pub mod LabelLaws
 pub mod MarkerLaws
-pub mod Tests
+pub mod MarkerRules
 pub mod ZoneLaws

@@ -106,6 +106,14 @@ fn bytes_of(vector: &Vector) -> [u8; MARKER_BYTES] {
     bytes
 }
 
+/// All but the last byte.
+fn without_last(bytes: &[u8]) -> &[u8] {
+    match bytes {
+        [] => bytes,
+        [before @ .., _] => before,
+    }
+}
+
 #[test]
 fn markers_are_spelled_and_read(rt: HostRuntime) -> Result<(), Fail> {
     for vector in &VECTORS {
@@ -155,7 +163,7 @@ fn other_bytes_are_no_marker(rt: HostRuntime) {
         assert!(rt; read_marker(&bytes).is_none(), "changed at {at}");
     }
     assert!(rt; read_marker(&put).is_some());
-    assert!(rt; read_marker(&put[..MARKER_BYTES - 1]).is_none());
+    assert!(rt; read_marker(without_last(&put)).is_none());
 }
 
 #[test]
@@ -217,7 +225,7 @@ fn blocks_hold_one_thing(rt: HostRuntime) {
     write_foot_block(&foot, &mut block);
     assert_eq!(rt; block[0], 3);
     assert!(rt; read_foot_block(&block) == Some(foot));
-    assert!(rt; read_foot_block(&block[..511]).is_none());
+    assert!(rt; read_foot_block(without_last(&block)).is_none());
     assert!(rt; read_marker_block(&block).is_none());
     // a byte behind the foot
     block[28] = 1;

@@ -1,6 +1,6 @@
 use Rattle.std.proofs.Common.{ap, sym, ◌∙◌}
 use Rattle.marker_format.specs.Block.{marker_in_block}
-use Rattle.marker_format.proofs.Tests.{is_marker-true, IsMarker-true}
+use Rattle.marker_format.proofs.MarkerRules.{is_marker-true, IsMarker-true}
 use Rattle.marker_format.proofs.BlockLaws.{marker_in_block-is, marker_in_block-again}
 use Rattle.marker_format.proofs.laws.blocks_hold_markers.Goals as goal
 

@@ -5,7 +5,7 @@ use Rattle.smore_base.proofs.BigEndianLaws.{exact32, number_at-fits}
 use Rattle.marker_format.specs.Frame.{HasFrame}
 use Rattle.marker_format.specs.Marker.{IsPadded, is_well_formed, marker_at}
 use Rattle.marker_format.proofs.MarkerLaws.{magic, marker_at-spelled, marker_at-again, spelling_of-frame, spelling_of-padded}
-use Rattle.marker_format.proofs.Tests.{IsMarker-from, is_well_formed-true}
+use Rattle.marker_format.proofs.MarkerRules.{IsMarker-from, is_well_formed-true}
 use Rattle.marker_format.proofs.marker.read_marker.Goals as goal
 use Rattle.marker_format.proofs.marker.read_marker.Goals.{then-not-has_frame-via-then-not-has_frame, then-not-has_frame-via-else-not-has_frame+then-not-is_padded}
 
