@@ -22,16 +22,17 @@ tracks_same old new same = rw same (record { count = refl; tracks = λ d. refl }
 failures_same : (old new : Array) → new ≡ old → AllKeepFailures (views_of old) (views_of new)
 failures_same old new same = rw same (λ d. record { faults = refl; failed = refl; unnoted = refl })
 
-none_found : (call : Call) (d : ℕ) (lost : Bool) → lost ≡ lost_after call false d lost
-none_found (Written device zone) d lost = refl
-none_found (Read device zone) d lost = refl
-none_found (Append device zone bytes) d lost = refl
-none_found (Reset device zone) d lost = refl
-none_found (Flush device) d lost = refl
-none_found (Replace device) d lost = refl
+-- a failed call finds no device
+lost_still : (call : Call) (d : ℕ) (lost : Bool) → lost ≡ lost_after call false d lost
+lost_still (Written device zone) d lost = refl
+lost_still (Read device zone) d lost = refl
+lost_still (Append device zone bytes) d lost = refl
+lost_still (Reset device zone) d lost = refl
+lost_still (Flush device) d lost = refl
+lost_still (Replace device) d lost = refl
 
 lost_same : (call : Call) (old new : Array) → new ≡ old → lost_in (views_of new) ≡ lost_then call false (views_of old)
-lost_same call old new same = rw same (λ i d. none_found call d (lost_in (views_of old) d) i)
+lost_same call old new same = rw same (λ i d. lost_still call d (lost_in (views_of old) d) i)
 
 -- a call of which only the image was taken
 module _ {T E : Type 0} (due : Bool) (call : Call) (old mid now : MemoryBay) (r : Result T E) (array : now.array ≡ old.array) (later : bay_moment now ≡ counted (bay_moment old)) (no_earlier : bay_moment old ≤ bay_moment now) (reads : reads_of now ≡ reads_after call (state_of old)) (listed : listed_calls now ≡ listed_calls old) (asked_is : asked_of now ≡ asked_of mid) (stored_is : stored_of now ≡ stored_of mid) (takes : TakesImage (done_unless due call) old mid r) (none : OnErr r (IsAsked old × (kept_of mid ≡ None))) where

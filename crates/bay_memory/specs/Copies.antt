@@ -10,7 +10,7 @@ pub record AreCopies (left : Contents) (device zones : ℕ) (tracks : List Track
   pub count : length tracks ≡ zones
   pub each : (z : ℕ) → z < zones → IsFresh (left device z) (track_in tracks z)
 
--- so does each of this device, on which no call was made
+-- so has each of this device, on which no call was made
 pub record IsCopy (left : Contents) (device zones : ℕ) (view : View) : Type 0 where
   pub fresh : view ≡ view_with view.tracks
   pub copied : AreCopies left device zones view.tracks

@@ -35,12 +35,12 @@ zone_after (Flush device) z state = all_firm state
 zone_after (Replace device) z state = all_gone state
 zone_after call z state = state
 
--- A replacement that is answered leaves its device working, and nothing else finds one.
+-- whether a device is lost after a call: a replacement of it that is answered finds it, and nothing else changes that
 abbrev pub lost_after : Call → Bool → ℕ → Bool → Bool
 lost_after (Replace device) answered d lost = if answered && (d == device) then false else lost
 lost_after call answered d lost = lost
 
--- Bytes that are appended need memory. All else has taken its room with them.
+-- Only an append needs memory: it takes the room to note what may come after it.
 abbrev pub NeedsMemory : Call → Type 0
 NeedsMemory (Append device zone bytes) = ⊤
 NeedsMemory call = ⊥

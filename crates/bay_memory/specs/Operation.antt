@@ -1,4 +1,4 @@
--- The calls, and how far one is when a crash comes.
+-- The calls, what each requires, and what one has done when a crash comes.
 use Rattle.std.specs.Prelude.{◌≡◌, ℕ, Bool, false, true, ◌+◌, ◌*◌, ◌<◌, ◌≤◌, ◌&&◌, ◌==◌, List, [], length, take, Option, None, Some, ⊤, if◌then◌else◌}
 use Rattle.zone_bay.specs.Contents.{Shape, Contents, appended}
 use Rattle.zone_bay.specs.Bay as bay

@@ -1,4 +1,4 @@
-ghost use Rattle.std.specs.Prelude.{◌≡◌, ℕ, ◌^◌, ◌*◌, ◌+◌, ◌<◌, ◌≤◌, true, false, [], replicate, map, length, vec_len, IfOk, OnOk, OnErr};
+ghost use Rattle.std.specs.Prelude.{◌≡◌, ◌^◌, ◌*◌, ◌<◌, true, [], replicate, map, length, IfOk};
 ghost use Rattle.bay_memory.specs.Device.{view_of, view_with};
 ghost use Rattle.bay_memory.specs.Past.{blank_track};
 ghost use Rattle.bay_memory.specs.Array.{IsWhole};
@@ -29,9 +29,7 @@ fn blank_devices(alloc: Global, devices: u8, zones: u16) -> Result<Vec<Device>, 
 }
 
 impl Array {
-    ghost use Rattle.zone_bay.specs.Outside.{counted};
     ghost use Rattle.bay_memory.specs.Operation.{call_of, IsWithin};
-    ghost use Rattle.bay_memory.specs.Device.{View};
     ghost use Rattle.bay_memory.specs.Array.{contents_in, firm_in, AreFresh, AllSteady, ArrayMakes, KeepsTracks, AllKeepFailures, NotesFault, lost_in, with_lost};
     ghost use Rattle.bay_memory.specs.Views.{views_of, shape_of};
 

@@ -1,8 +1,8 @@
-ghost use Rattle.std.specs.Prelude.{◌≡◌, ◌<◌, ◌≤◌, length, map, IfOk};
+ghost use Rattle.std.specs.Prelude.{◌≡◌, ◌<◌, map, IfOk};
 ghost use Rattle.bay_memory.specs.Array.{AreFresh, contents_in, firm_in};
 ghost use Rattle.bay_memory.specs.Views.{views_of, shape_of};
 ghost use Rattle.bay_memory.specs.Zone.{track_of};
-ghost use Rattle.bay_memory.specs.Device.{view_of, view_with};
+ghost use Rattle.bay_memory.specs.Device.{view_of};
 ghost use Rattle.bay_memory.specs.Keep.{kept_with, left_by};
 ghost use Rattle.bay_memory.specs.Copies.{AreCopies, IsCopy, AreDeviceCopies};
 

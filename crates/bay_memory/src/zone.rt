@@ -1,10 +1,16 @@
-ghost use Rattle.std.specs.Prelude.{◌+◌, ◌<◌, ◌≤◌, ◌≡◌, ◌++◌, [], length, vec_len, IfOk, OnOk, OnErr};
+ghost use Rattle.std.specs.Prelude.{◌+◌, ◌<◌, ◌≤◌, ◌≡◌, ◌++◌, length, vec_len, IfOk, OnOk, OnErr};
 ghost use Rattle.std.specs.Vec.{vec_capacity};
 ghost use Rattle.bay_memory.specs.Past.{LieWithin};
 
 use crate::change::Change;
 use crate::was::Was;
 use std::alloc::{AllocError, Global};
+
+/// An append is noted, and a flush and a reset that may come after it.
+const NOTES_OF_AN_APPEND: usize = 3;
+
+/// All of a copy is firm, so that only a reset of it may come to be noted.
+const NOTES_OF_A_COPY: usize = 1;
 
 /// A zone, with what it held before each change, so that a contract can speak of each moment. It keeps all the bytes
 /// that were ever put there, and takes the room to note a flush and a reset when bytes are put there: only that needs
@@ -48,7 +54,7 @@ impl Zone {
         let mut bytes = bytes.to_vec(alloc)?;
         bytes.extend_from_slice(more)?;
         let firm = bytes.len();
-        let past = Vec::with_capacity(alloc, 1)?;
+        let past = Vec::with_capacity(alloc, NOTES_OF_A_COPY)?;
         Ok(Zone {
             bytes,
             start: 0,
@@ -89,7 +95,7 @@ impl Zone {
         ensures ok { OnOk result (Goes moment (with_more bytes.now) (track_of self.old) (track_of self.new)) }
         ensures err { OnErr result (track_of self.new ≡ track_of self.old) }
     {
-        self.past.reserve(3)?;
+        self.past.reserve(NOTES_OF_AN_APPEND)?;
         let was = self.was(moment);
         self.bytes.extend_from_slice(bytes)?;
         self.past.push_reserved(was);
