@@ -1,2 +1,3 @@
+pub mod Laws
 pub mod Walk
 pub mod ZoneReader
