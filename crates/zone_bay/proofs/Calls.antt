@@ -1,5 +1,5 @@
 -- One call, as a stretch of calls.
-use Rattle.std.proofs.Common.{cond, nat_lt, ◌+◌, ◌≡◌, ◌⊎◌, ℕ, zero, suc, ◌<◌, ◌≤◌, Bool, true, false, take, Option, Some, None, IfSome, Result, Ok, Err, refl, subst, sym, ◌∙◌, arith, inl, inr}
+use Rattle.std.proofs.Common.{cond, ap, nat_lt, ◌+◌, ◌≡◌, ◌⊎◌, ℕ, zero, suc, ◌<◌, ◌≤◌, Bool, true, false, take, Option, Some, None, IfSome, Result, Ok, Err, refl, subst, sym, ◌∙◌, arith, inl, inr}
 use Rattle.std.specs.Prelude.{option_map, unwrap_or, [], ⊤}
 use Rattle.std.specs.Result.{is_err, IsErr}
 use Rattle.std.proofs.lemmas.Bool.{cases_eq}
@@ -7,9 +7,9 @@ use Rattle.smore_base.specs.Told.{Told}
 use Rattle.zone_bay.specs.Outside.{counted}
 use Rattle.zone_bay.specs.Contents.{Contents, Lengths, appended, emptied, blanked}
 use Rattle.zone_bay.specs.Images.{IsImage, ImageOf, Instant, Between, During, moment_of}
-use Rattle.zone_bay.specs.Bay.{BayState, IsSound, IsImageNow, Call, Written, Read, Append, Reset, Flush, Replace, device_of, made_by, part_made_by, firm_after, LeftByCall, Makes}
+use Rattle.zone_bay.specs.Bay.{BayState, IsSound, IsImageNow, Call, Written, Read, Append, Reset, Flush, Replace, device_of, made_by, part_made_by, firm_after, held_in, LeftByCall, Makes}
 use Rattle.zone_bay.specs.Laws.{NoMoreFirm}
-use Rattle.zone_bay.specs.Stretch.{GoesOn, OnlyReads, ReadsAtMost, FailsOver, LeftAround}
+use Rattle.zone_bay.specs.Stretch.{GoesOn, OnlyReads, ReadsAtMost, FailsOver, FailsReading, LeftAround}
 use Rattle.zone_bay.proofs.Images.{append_leaves_old, part_leaves_less, flush_leaves_fewer, still_firm_leaves_same}
 use Rattle.zone_bay.proofs.Stretch.{goes_weaker, goes_join}
 
@@ -84,15 +84,15 @@ told_by call old new (Ok x) makes = told_made (made_by call) old.contents new.co
 told_by call old new (Err e) makes = told_made (part_made_by makes.part.0 call) old.contents new.contents _ makes.part.1 (λ h. tt)
 
 -- only a call that failed raises a count, that of its device
-rose_by : {T E : Type 0} (call : Call) (old new : BayState) (r : Result T E) → Makes call old new r → (d : ℕ) → old.faults d < new.faults d → (m : ℕ) × (old.moment ≤ m) × new.failed d m × (IsErr r × (d ≡ device_of call))
+rose_by : {T E : Type 0} (call : Call) (old new : BayState) (r : Result T E) → Makes call old new r → (d : ℕ) → old.faults d < new.faults d → (m : ℕ) × (old.moment ≤ m) × (m ≤ new.moment) × new.failed d m × (IsErr r × (d ≡ device_of call))
 rose_by call old new r makes d more = elim (cases_eq d (device_of call)) [
   | inl same ↦ failed r makes same (subst (λ (n : ℕ). old.faults n < new.faults n) same more)
   | inr other ↦ absurd (let stays = makes.others d other in omega arith)
 ]
   where
-    failed : {T E : Type 0} (r : Result T E) → Makes call old new r → d ≡ device_of call → old.faults (device_of call) < new.faults (device_of call) → (m : ℕ) × (old.moment ≤ m) × new.failed d m × (IsErr r × (d ≡ device_of call))
+    failed : {T E : Type 0} (r : Result T E) → Makes call old new r → d ≡ device_of call → old.faults (device_of call) < new.faults (device_of call) → (m : ℕ) × (old.moment ≤ m) × (m ≤ new.moment) × new.failed d m × (IsErr r × (d ≡ device_of call))
     failed (Ok x) makes same more = absurd (let stays = makes.cause.ok in omega arith)
-    failed (Err e) makes same more = (old.moment, omega arith, subst (λ (n : ℕ). new.failed n old.moment) (sym same) makes.failure.told, (refl, same))
+    failed (Err e) makes same more = (old.moment, omega arith, makes.no_earlier, subst (λ (n : ℕ). new.failed n old.moment) (sym same) makes.failure.told, (refl, same))
 
 pub call_goes : {T E : Type 0} (call : Call) (old new : BayState) (r : Result T E) → IsSound old → Makes call old new r → GoesOn old new (λ _ image. LeftAround call old.contents old.firm image) (λ d _. IsErr r × (d ≡ device_of call))
 call_goes call old new r sound makes = record {
@@ -162,3 +162,24 @@ reads_once device zone old new r makes = subst (λ (n : ℕ). n ≤ old.reads + 
 
 pub written_reads_none : {T E : Type 0} (device zone : ℕ) (old new : BayState) (r : Result T E) → Makes (Written device zone) old new r → ReadsAtMost 0 old new
 written_reads_none device zone old new r makes = omega (arith, makes.reads)
+
+-- a call that failed behind calls that only read
+pub fails_reading : {T E : Type 0} (call : Call) (old mid new : BayState) (Q : ℕ → ℕ → Type 0) (r : Result T E) → IsSound mid → OnlyReads old mid Q → IsErr r → Makes call mid new r → FailsReading (device_of call) old new
+fails_reading call old mid new Q r sound so_far failed makes = told_fails old.contents so_far.contents
+  where
+    told_fails : (held : Option Contents) → mid.contents ≡ held → IfSome held (λ h. (moment : ℕ) × (old.moment ≤ moment) × FailsOver (device_of call) moment h old.firm new)
+    told_fails None is = tt
+    told_fails (Some h) is = (mid.moment, so_far.goes_on.later, subst (λ (f : Lengths). FailsOver (device_of call) mid.moment h f new) so_far.firm (fails_over call mid new r h sound failed is makes))
+
+-- what two calls made, one behind the other
+pub made_then : (f g : Contents → Contents) (held mid new : Option Contents) → mid ≡ option_map f held → new ≡ option_map g mid → new ≡ option_map (λ h. g (f h)) held
+made_then f g held mid new first then = then ∙ ap (option_map g) first ∙ both held
+  where
+    both : (held : Option Contents) → option_map g (option_map f held) ≡ option_map (λ h. g (f h)) held
+    both None = refl
+    both (Some h) = refl
+
+-- how much is firm after an answered call
+pub firm_then : {T E : Type 0} (call : Call) (old new : BayState) (r : Result T E) → is_err r ≡ false → Makes call old new r → new.firm ≡ firm_after call true (held_in new) old.firm
+firm_then call old new (Ok x) answered makes = makes.firm
+firm_then call old new (Err e) answered makes = cc

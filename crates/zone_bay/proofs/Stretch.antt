@@ -39,8 +39,8 @@ goes_join old mid new P Q first then = record {
     | inr since ↦ inr (omega (arith, first.later, since.0), since.1)
   ];
   rose = λ d more. elim (cases_lt (old.faults d) (mid.faults d)) [
-    | inl earlier ↦ let it = first.rose d earlier in (it.0, it.1, then.keeps_failed d it.0 it.2, it.3)
-    | inr not_more ↦ let it = then.rose d (omega arith) in (it.0, omega (arith, first.later, it.1), it.2, it.3)
+    | inl earlier ↦ let it = first.rose d earlier in (it.0, it.1, omega (arith, it.2, then.later), then.keeps_failed d it.0 it.3, it.4)
+    | inr not_more ↦ let it = then.rose d (omega arith) in (it.0, omega (arith, first.later, it.1), it.2, it.3, it.4)
   ];
 }
 
@@ -61,13 +61,13 @@ goes_weaker old new P P' Q Q' weaker_P weaker_Q goes = record {
     | inl before ↦ inl before
     | inr since ↦ inr (since.0, weaker_Q d m since.0 since.1)
   ];
-  rose = λ d more. let it = goes.rose d more in (it.0, it.1, it.2, weaker_Q d it.0 it.1 it.3);
+  rose = λ d more. let it = goes.rose d more in (it.0, it.1, it.2, it.3, weaker_Q d it.0 it.1 it.4);
 }
 
 -- A device for which Q doesn't hold didn't fail.
 pub no_fault : (old new : BayState) (P : Instant → Contents → Type 0) (Q : ℕ → ℕ → Type 0) (d : ℕ) → GoesOn old new P Q → ((m : ℕ) → Q d m → ⊥) → new.faults d ≡ old.faults d
 no_fault old new P Q d goes none = elim (cases_lt (old.faults d) (new.faults d)) [
-  | inl more ↦ let it = goes.rose d more in absurd (none it.0 it.3)
+  | inl more ↦ let it = goes.rose d more in absurd (none it.0 it.4)
   | inr not_more ↦ omega (arith, goes.no_fewer d)
 ]
 

@@ -15,7 +15,7 @@ pub record BayState : Type 1 where
   pub left : Instant → Contents → Type 0
   -- how often each device has failed
   pub faults : ℕ → ℕ
-  -- at which moments calls on each device failed, and perhaps at later ones
+  -- the moments of each device's failed calls; more may be told, and never fewer
   pub failed : ℕ → ℕ → Type 0
   -- how many calls were made so far
   pub moment : ℕ
@@ -40,7 +40,7 @@ pub record IsSound (bay : BayState) : Type 0 where
   pub inside : IfSome bay.contents (λ held. (d z : ℕ) → (bay.shape.devices ≤ d) ⊎ (bay.shape.zones ≤ z) → held d z ≡ [])
   -- a crash now, before the next call, may leave each image of what is held
   pub counts_now : (image : Contents) → IsImageNow bay image → bay.left (Between bay.moment) image
-  -- and leaves nothing but such an image
+  -- a crash now leaves nothing but such an image
   pub only_now : (image : Contents) → bay.left (Between bay.moment) image → IsImageNow bay image
   -- no crash has come in the call that is made next
   pub none_yet : (image : Contents) → bay.left (During bay.moment) image → ⊥
@@ -119,7 +119,7 @@ pub record Elapses {T E : Type 0} (change : Contents → Contents) (old new : Ba
   pub only : (i : Instant) (image : Contents) → new.left i image → old.left i image ⊎ LeftByCall change old new i image
 
 -- The moments of the failed calls of each device, after a call: a failed one adds its own, and may add later moments of
--- its device too, where no more can be noted. An answered call adds none.
+-- its device too. An answered call adds none.
 pub record TellsFailure {T E : Type 0} (device : ℕ) (old new : BayState) (result : Result T E) : Type 0 where
   pub keeps : (d m : ℕ) → old.failed d m → new.failed d m
   pub told : OnErr result (new.failed device old.moment)

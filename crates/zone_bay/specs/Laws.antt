@@ -16,7 +16,7 @@ FlushLeavesFewer = (held : Contents) (firm : Lengths) (device : ℕ) (image : Co
 abbrev pub FlushKeepsDevice : Type 0
 FlushKeepsDevice = (held : Contents) (firm : Lengths) (device : ℕ) (image : Contents) → IsImage held (flushed device held firm) image → (z : ℕ) → image device z ≡ held device z
 
--- It may still leave each image that has that device whole: of the other devices no more is firm.
+-- A crash after a flush may leave each earlier image that has the flushed device whole: of the other devices no more is firm.
 abbrev pub FlushLeavesOthers : Type 0
 FlushLeavesOthers = (held : Contents) (firm : Lengths) (device : ℕ) (image : Contents) → IsImage held firm image → ((z : ℕ) → image device z ≡ held device z) → IsImage held (flushed device held firm) image
 
@@ -28,7 +28,7 @@ AppendLeavesOld = (held : Contents) (firm : Lengths) (device zone : ℕ) (bytes 
 abbrev pub AppendLeavesPart : Type 0
 AppendLeavesPart = (held : Contents) (firm : Lengths) (device zone : ℕ) (bytes : List ℕ) (image : Contents) → IsImage (appended device zone bytes held) firm image → IsImage held firm image ⊎ ((n : ℕ) × (n ≤ length bytes) × (image device zone ≡ held device zone ++ take n bytes))
 
--- And that may be any prefix of them.
+-- A crash after an append may leave any prefix of its bytes.
 abbrev pub AppendLeavesAnyPart : Type 0
 AppendLeavesAnyPart = (held : Contents) (firm : Lengths) (device zone : ℕ) (bytes : List ℕ) (image : Contents) (n : ℕ) → NoMoreFirm held firm → IsImage held firm image → IsImage (appended device zone bytes held) firm (with_zone device zone (held device zone ++ take n bytes) image)
 
@@ -40,7 +40,7 @@ PartLeavesLess = (held : Contents) (firm : Lengths) (device zone : ℕ) (bytes :
 abbrev pub MoreLeavesMore : Type 0
 MoreLeavesMore = (held more : Contents) (firm : Lengths) (image : Contents) → NoMoreFirm held firm → Extends held more → IsImage held firm image → IsImage more firm image
 
--- It may leave it, too, where less is firm.
+-- What a crash may leave, it may leave where less is firm.
 abbrev pub LessFirmLeavesMore : Type 0
 LessFirmLeavesMore = (held : Contents) (less more : Lengths) (image : Contents) → ((d z : ℕ) → less d z ≤ more d z) → IsImage held more image → IsImage held less image
 

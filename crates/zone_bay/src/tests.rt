@@ -1,4 +1,6 @@
-ghost use Rattle.std.specs.Prelude.{◌≡◌, ℕ, ◌+◌, ◌*◌, ◌<◌, ◌≤◌, length, IfSome, IfErr};
+ghost use Rattle.std.specs.Prelude.{◌≡◌, ℕ, ◌+◌, ◌*◌, ◌<◌, ◌≤◌, length, IfSome, IsErrAnd, IfErr, OnOk};
+ghost use Rattle.zone_bay.specs.Images.{flushed};
+ghost use Rattle.zone_bay.specs.Bay.{Becomes, held_in};
 ghost use Rattle.zone_bay.specs.Stretch.{GoesToward, FailsToward};
 ghost use Rattle.zone_bay.specs.Testing.{on_both};
 
@@ -97,12 +99,15 @@ fn append_both<B: Bay>(bay: &mut B, zone: u16, bytes: &[u8]) -> Result<(), u8>
     requires zone_in { zone < (B.state bay.old).shape.zones }
     requires fits { IfSome (B.state bay.old).contents
         (λ held. (d : ℕ) → length (held d zone) + length bytes.now ≤ 512 * (B.state bay.old).shape.blocks) }
+    ensures done { OnOk result (Becomes (on_both zone bytes.now) (B.state bay.old) (B.state bay.new)) }
+    ensures firm { OnOk result
+        ((B.state bay.new).firm ≡ flushed 0 (held_in (B.state bay.new)) (B.state bay.old).firm) }
     // Whichever call fails, a crash since leaves an image of what was held with the bytes on both, and the firm lengths of
-    // before.
+    // before; and only the device that is told has failed.
     ensures goes_toward { GoesToward (on_both zone bytes.now) (B.state bay.old) (B.state bay.new)
-        (λ d _. IfErr result (λ device. d ≡ device)) }
-    ensures failed { IfErr result (λ device. IfSome (B.state bay.old).contents
-        (λ held. FailsToward (on_both zone bytes.now held) device (B.state bay.new))) }
+        (λ d _. IsErrAnd result (λ device. d ≡ device)) }
+    ensures failed { IfErr result
+        (λ device. FailsToward (on_both zone bytes.now) device (B.state bay.old) (B.state bay.new)) }
 {
     if bay.append(0, zone, bytes).is_err() {
         return Err(0);

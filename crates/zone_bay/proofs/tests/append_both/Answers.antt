@@ -1,11 +1,12 @@
-use Rattle.std.proofs.Common.{◌≡◌, ℕ, false, List, Result, refl}
+use Rattle.std.proofs.Common.{◌≡◌, ℕ, true, false, List, Result, refl, ap, ◌∙◌}
 use Rattle.std.specs.Result.{is_err, IsErr}
 use Rattle.smore_base.proofs.Told.{Told-same, Told-weaker}
-use Rattle.zone_bay.specs.Bay.{BayState, IsSound, Append, Flush, Makes}
+use Rattle.zone_bay.specs.Bay.{BayState, IsSound, Append, Flush, firm_after, held_in, Makes}
+use Rattle.zone_bay.specs.Contents.{Lengths, appended}
 use Rattle.zone_bay.specs.Stretch.{GoesToward}
 use Rattle.zone_bay.specs.Testing.{on_both}
 use Rattle.zone_bay.proofs.Extends.{extends_itself, extends_then, append_extends}
-use Rattle.zone_bay.proofs.Calls.{made_of, told_made}
+use Rattle.zone_bay.proofs.Calls.{made_of, told_made, made_then, firm_then}
 use Rattle.zone_bay.proofs.Toward.{toward_start, toward_call, fails_toward}
 use Rattle.zone_bay.proofs.tests.append_both.Goals as goal
 
@@ -46,3 +47,15 @@ returns-then-is_err-2-clause-failed g c = fails_toward (Append 1 _ _) _ _ _ _ _ 
 
 pub returns-then-is_err-3-clause-failed : goal.returns-then-is_err-3-clause-failed
 returns-then-is_err-3-clause-failed g c = fails_toward (Flush 0) _ _ _ _ _ (g.met.B.Bay.sound c.append-2.new.self) (two c.args.zone c.args.bytes.now (λ d m. Unit {0}) _ (g.met.B.Bay.sound c.args.bay.now) _ _ c.append.ensures.call (cc) (g.met.B.Bay.sound c.append.new.self) _ _ c.append-2.ensures.call (λ m is. tt)) _ (cc) c.flush.ensures.call
+
+-- all three answered
+pub returns-clause-done : goal.returns-clause-done
+returns-clause-done g c = made_then (on_both c.args.zone c.args.bytes.now) (λ h. h) _ _ _
+    (made_then (appended 0 c.args.zone c.args.bytes.now) (appended 1 c.args.zone c.args.bytes.now) _ _ _
+        (made_of (Append 0 c.args.zone c.args.bytes.now) _ _ _ (cc) c.append.ensures.call)
+        (made_of (Append 1 c.args.zone c.args.bytes.now) _ _ _ (cc) c.append-2.ensures.call))
+    (made_of (Flush 0) _ _ _ (cc) c.flush.ensures.call)
+
+pub returns-clause-firm : goal.returns-clause-firm
+returns-clause-firm g c = firm_then (Flush 0) _ _ _ (cc) c.flush.ensures.call ∙ ap (λ (f : Lengths). firm_after (Flush 0) true (held_in (g.B.Bay.state c.flush.new.self)) f)
+    (firm_then (Append 1 c.args.zone c.args.bytes.now) _ _ _ (cc) c.append-2.ensures.call ∙ firm_then (Append 0 c.args.zone c.args.bytes.now) _ _ _ (cc) c.append.ensures.call)
