@@ -171,6 +171,15 @@ fails_reading call old mid new Q r sound so_far failed makes = told_fails old.co
     told_fails None is = tt
     told_fails (Some h) is = (mid.moment, so_far.goes_on.later, subst (λ (f : Lengths). FailsOver (device_of call) mid.moment h f new) so_far.firm (fails_over call mid new r h sound failed is makes))
 
+-- what a reader left that failed behind calls that only read
+pub fails_reading_then : (device : ℕ) (old mid new : BayState) (Q : ℕ → ℕ → Type 0) → OnlyReads old mid Q → FailsReading device mid new → FailsReading device old new
+fails_reading_then device old mid new Q so_far fails = told_fails old.contents mid.contents so_far.contents fails
+  where
+    told_fails : (held then : Option Contents) → then ≡ held → IfSome then (λ h. (moment : ℕ) × (mid.moment ≤ moment) × FailsOver device moment h mid.firm new) → IfSome held (λ h. (moment : ℕ) × (old.moment ≤ moment) × FailsOver device moment h old.firm new)
+    told_fails None then is fails = tt
+    told_fails (Some h) then is fails = let it = subst (λ (o : Option Contents). IfSome o (λ h. (moment : ℕ) × (mid.moment ≤ moment) × FailsOver device moment h mid.firm new)) is fails in
+        (it.0, omega (arith, so_far.goes_on.later, it.1), subst (λ (f : Lengths). FailsOver device it.0 h f new) so_far.firm it.2)
+
 -- what two calls made, one behind the other
 pub made_then : (f g : Contents → Contents) (held mid new : Option Contents) → mid ≡ option_map f held → new ≡ option_map g mid → new ≡ option_map (λ h. g (f h)) held
 made_then f g held mid new first then = then ∙ ap (option_map g) first ∙ both held

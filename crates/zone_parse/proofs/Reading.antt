@@ -1,9 +1,10 @@
 -- Calls that only read a zone, and what they do to a reader of it.
 use Rattle.std.proofs.Common.{◌≡◌, ℕ, suc, ◌+◌, ◌*◌, ◌≤◌, Bool, true, false, cond, List, [], ◌∷◌, length, Option, Some, None, Result, Ok, Err, refl, sym, ap, subst, ◌∙◌, arith}
-use Rattle.std.specs.Prelude.{◌&&◌, nat_le, ◌==◌, option_map, IfSome, IfOk}
+use Rattle.std.specs.Prelude.{◌&&◌, nat_le, ◌==◌, option_map, IfSome, IfOk, OnErr}
 use Rattle.std.proofs.lemmas.Bool.{and_parts, leb-true, false≢true}
 use Rattle.zone_bay.specs.Bay.{BayState}
-use Rattle.zone_bay.specs.Stretch.{ReadsAtMost}
+use Rattle.zone_bay.specs.Stretch.{ReadsAtMost, FailsReading}
+use Rattle.zone_bay.proofs.Calls.{fails_reading_then}
 use Rattle.zone_bay.proofs.Causes.{cause_later}
 use Rattle.zone_bay.proofs.Stretch.{reads_nothing, reads_join, reads_weaker}
 use Rattle.marker_format.specs.declared.marker.Marker.{Marker}
@@ -33,13 +34,14 @@ if_some-both P Q R (Some x) p q f = f x p q
 -- ---- one call behind the other
 
 pub nothing_read : {T : Type 0} (s : Source) (bay : BayState) (x : T) → OnlyReadsOf s bay bay (Ok x)
-nothing_read s bay x = record { only = reads_nothing bay _; cause = record { keeps = omega arith; ok = refl; err = tt }; device = tt }
+nothing_read s bay x = record { only = reads_nothing bay _; cause = record { keeps = omega arith; ok = refl; err = tt }; device = tt; over = tt }
 
 pub reads_as : {T U : Type 0} (s : Source) (old new : BayState) (x : T) (y : U) → OnlyReadsOf s old new (Ok x) → OnlyReadsOf s old new (Ok y)
 reads_as s old new x y reads = record {
   only = reads_weaker old new _ _ (λ d m since q. absurd (false≢true q.0)) reads.only;
   cause = record { keeps = reads.cause.keeps; ok = reads.cause.ok; err = tt };
   device = tt;
+  over = tt;
 }
 
 pub fails_as : {T U : Type 0} (s : Source) (old new : BayState) (e : Lost) → OnlyReadsOf {T = T} s old new (Err e) → OnlyReadsOf {T = U} s old new (Err e)
@@ -47,13 +49,19 @@ fails_as s old new e reads = record {
   only = reads_weaker old new _ _ (λ d m since q. (refl, q.1)) reads.only;
   cause = record { keeps = reads.cause.keeps; ok = tt; err = reads.cause.err };
   device = reads.device;
+  over = reads.over;
 }
+
+over_then : {T U : Type 0} (s : Source) (old mid new : BayState) (x : T) (r : Result U Lost) → OnlyReadsOf s old mid (Ok x) → OnErr r (FailsReading s.device mid new) → OnErr r (FailsReading s.device old new)
+over_then s old mid new x (Ok y) first over = tt
+over_then s old mid new x (Err e) first over = fails_reading_then s.device old mid new _ first.only over
 
 pub reads_then : {T U : Type 0} (s : Source) (old mid new : BayState) (x : T) (r : Result U Lost) → OnlyReadsOf s old mid (Ok x) → OnlyReadsOf s mid new r → OnlyReadsOf s old new r
 reads_then s old mid new x r first then = record {
   only = reads_join old mid new _ (reads_weaker old mid _ _ (λ d m since q. absurd (false≢true q.0)) first.only) then.only;
   cause = cause_later x r (old.faults s.device) (mid.faults s.device) (new.faults s.device) first.cause then.cause;
   device = then.device;
+  over = over_then s old mid new x r first then.over;
 }
 
 pub held_after : {T : Type 0} (s : Source) (old new : BayState) (r : Result T Lost) → OnlyReadsOf s old new r → held_at s new ≡ held_at s old

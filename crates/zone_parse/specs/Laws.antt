@@ -1,5 +1,5 @@
 -- What follows for a whole walk over a zone.
-use Rattle.std.specs.Prelude.{◌≡◌, ℕ, ◌+◌, ◌≤◌, List, [], ◌∷◌, length, Some, None}
+use Rattle.std.specs.Prelude.{◌≡◌, ℕ, List, [], ◌∷◌, Some, None}
 use Rattle.marker_format.specs.declared.marker.Marker.{Marker}
 use Rattle.zone_parse.specs.declared.zone_reader.ZoneReader.{ZoneReader}
 use Rattle.zone_parse.specs.ZoneReader.{records_left, foot_left, Gives}

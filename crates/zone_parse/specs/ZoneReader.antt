@@ -3,7 +3,7 @@ use Rattle.std.specs.Prelude.{◌≡◌, ℕ, ◌+◌, ◌*◌, ◌<◌, ◌≤�
 use Rattle.smore_base.specs.declared.limits.TheConstants.{BLOCK_BYTES}
 use Rattle.zone_bay.specs.Outside.{HasCause}
 use Rattle.zone_bay.specs.Bay.{BayState}
-use Rattle.zone_bay.specs.Stretch.{OnlyReads, ReadsAtMost}
+use Rattle.zone_bay.specs.Stretch.{OnlyReads, ReadsAtMost, FailsReading}
 use Rattle.marker_format.specs.declared.marker.Marker.{Marker}
 use Rattle.marker_format.specs.Block.{marker_in_block}
 use Rattle.marker_format.specs.Zone.{Array, blocks_of, belongs, may_stand, where_passes, with_more, records_from, begun, is_rebuilt, whole_records, has_foot}
@@ -31,11 +31,12 @@ pub record IsIn (bay : BayState) (s : Source) : Type 0 where
   pub zone : s.zone < bay.shape.zones
   pub written : IfSome (held_at s bay) (λ bytes. length bytes ≡ s.written)
 
--- Calls on the zone's device only read. They fail only where its count of faults says so.
+-- Calls on the zone's device only read. They fail only where its count of faults says so, and over what was held.
 pub record OnlyReadsOf {T : Type 0} (s : Source) (old new : BayState) (result : Result T Lost) : Type 0 where
   pub only : OnlyReads old new (λ d _. IsErr result × (d ≡ s.device))
   pub cause : HasCause result (old.faults s.device) (new.faults s.device)
   pub device : IfErr result (λ lost. lost.device ≡ s.device)
+  pub over : OnErr result (FailsReading s.device old new)
 
 -- the record in a block, where it goes on with the walk
 abbrev pub record_in : Source → Walk → List ℕ → Option Marker

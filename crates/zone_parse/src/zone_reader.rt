@@ -1,5 +1,5 @@
 ghost use Rattle.std.specs.Prelude.{◌≡◌, ◌*◌, ◌+◌, ◌<◌, ◌≤◌, ◌^◌, ◌==◌, nat_le, ℕ, List, length, Some, None, Ok, IfSome, IfNone, IfOk, OnOk, IfErr, OnErr, IsErr};
-ghost use Rattle.zone_bay.specs.Stretch.{OnlyReads, ReadsAtMost};
+ghost use Rattle.zone_bay.specs.Stretch.{OnlyReads, ReadsAtMost, FailsReading};
 ghost use Rattle.zone_bay.specs.Outside.{HasCause};
 ghost use Rattle.marker_format.specs.Block.{marker_in_block, foot_block};
 ghost use Rattle.marker_format.specs.Zone.{belongs, blocks_of, begun, is_rebuilt, whole_records, has_foot, stands_at};
@@ -263,9 +263,11 @@ impl ZoneReader {
             (λ bytes. IfOk result (λ found. Gives self.old self.new found bytes)) }
         ensures ended { IfOk result (λ found. IfNone found (IsEnded self.new)) }
 
-        // The device is lost only where its count of faults says so, and the reader then is as it was.
+        // The device is lost only where its count of faults says so; a call on it failed over what was held, and the reader
+        // is as it was.
         ensures cause { HasCause result (faults_of self.old (B.state bay.old)) (faults_of self.old (B.state bay.new)) }
         ensures device { IfErr result (λ lost. lost.device ≡ device_of self.old) }
+        ensures over { OnErr result (FailsReading (device_of self.old) (B.state bay.old) (B.state bay.new)) }
         ensures kept { OnErr result (self.new ≡ self.old) }
 
         // Nothing but its own device is read, and no more often than the reader then takes less.
