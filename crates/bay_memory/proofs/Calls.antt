@@ -13,7 +13,7 @@ use Rattle.bay_memory.specs.Operation.{done_by}
 use Rattle.bay_memory.specs.Device.{View, track_in, HasFailedAt, KeepsFailures}
 use Rattle.bay_memory.specs.Array.{view_at, track_at, AllSteady, contents_in, firm_in, failed_in, lost_then, ArrayGoes, KeepsTracks, NotesFault}
 use Rattle.bay_memory.specs.MemoryBay.{bay_views, bay_shape, bay_moment, reads_of, faults_of, contents_of, firm_of, left_of, state_of, asked_of, kept_of, IsAsked, IsDueFor, KeepsImage, KeepsRequests, Begins, MakesInMemory}
-use Rattle.bay_memory.specs.Laws.{counts_image}
+use Rattle.bay_memory.specs.Sound.{counts_image}
 use Rattle.bay_memory.proofs.Made.{bytes_after, firm_made, none_made, still_all_firm}
 use Rattle.bay_memory.proofs.Results.{of_ok, of_err, is_ok_not}
 use Rattle.bay_memory.proofs.Timeline.{elapses}
@@ -47,7 +47,7 @@ fault_keeps device moment old new fault d m failed = elim (cases_eq d device) [
 
 fault_only : (device moment : ℕ) (old new : List View) → NotesFault device moment old new → (d m : ℕ) → failed_in new d m → failed_in old d m ⊎ ((d ≡ device) × (moment ≤ m))
 fault_only device moment old new fault d m failed = elim (cases_eq d device) [
-  | inl same ↦ elim (fault.noted.nothing_else m (subst (λ (n : ℕ). failed_in new n m) same failed)) [
+  | inl same ↦ elim (fault.noted.only m (subst (λ (n : ℕ). failed_in new n m) same failed)) [
     | inl was ↦ inl (subst (λ (n : ℕ). failed_in old n m) (sym same) was)
     | inr since ↦ inr (same, since)
   ]

@@ -16,7 +16,7 @@ use Rattle.bay_memory.specs.Device.{View, view_of, view_with, track_in}
 use Rattle.bay_memory.specs.Array.{view_at, track_at, contents_in, firm_in, IsWhole, AreFresh}
 use Rattle.bay_memory.specs.Keep.{kept_bytes, kept, kept_with, left_by}
 use Rattle.bay_memory.specs.Copies.{AreCopies, IsCopy, AreDeviceCopies}
-use Rattle.bay_memory.specs.Laws.{none_outside}
+use Rattle.bay_memory.specs.Sound.{none_outside}
 
 -- what holds at each place of a list to which one more is added
 module _ {A B : Type 0} (f : A → B) (before now : List A) (more : A) (put : now ≡ before ++ more ∷ []) (n : ℕ) (count : length (map f before) ≡ n) where

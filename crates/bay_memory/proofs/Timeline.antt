@@ -9,7 +9,7 @@ use Rattle.zone_bay.specs.Bay.{Elapses, LeftInCall, LeftByCall}
 use Rattle.bay_memory.specs.Past.{State, now, held_at}
 use Rattle.bay_memory.specs.Array.{track_at}
 use Rattle.bay_memory.specs.MemoryBay.{bay_views, firm_of, contents_of, left_of, bay_moment, state_of}
-use Rattle.bay_memory.specs.Laws.{held_steady}
+use Rattle.bay_memory.specs.Sound.{held_steady}
 use Rattle.bay_memory.specs.declared.memory_bay.MemoryBay.{MemoryBay}
 
 -- an image of equal bytes, with equal firm lengths

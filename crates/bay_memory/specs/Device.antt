@@ -71,4 +71,4 @@ pub record DeviceMakes {T E : Type 0} (moment : ℕ) (call : Call) (old new : Vi
 pub record NotesFailure (moment : ℕ) (old new : View) : Type 0 where
   pub keeps : (m : ℕ) → HasFailedAt old m → HasFailedAt new m
   pub told : HasFailedAt new moment
-  pub nothing_else : (m : ℕ) → HasFailedAt new m → HasFailedAt old m ⊎ (moment ≤ m)
+  pub only : (m : ℕ) → HasFailedAt new m → HasFailedAt old m ⊎ (moment ≤ m)

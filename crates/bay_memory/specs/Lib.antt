@@ -3,9 +3,9 @@ pub mod Copies
 pub mod Device
 pub mod Image
 pub mod Keep
-pub mod Laws
 pub mod MemoryBay
 pub mod Operation
 pub mod Past
+pub mod Sound
 pub mod Views
 pub mod Zone

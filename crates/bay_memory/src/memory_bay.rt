@@ -263,7 +263,7 @@ impl Bay for MemoryBay {
     ghost use Rattle.zone_bay.specs.Bay.{Written, Read, Append, Reset, Flush, Replace, Makes};
     ghost use Rattle.zone_bay.specs.Contents.{Reads};
     ghost use Rattle.bay_memory.specs.MemoryBay.{state_of, bay_shape, contents_of, MakesInMemory};
-    ghost use Rattle.bay_memory.specs.Laws.{is_sound};
+    ghost use Rattle.bay_memory.specs.Sound.{is_sound};
 
     ghost state = { state_of };
 

@@ -6,7 +6,7 @@ use Rattle.zone_bay.specs.Stretch.{GoesOn}
 use Rattle.zone_bay.proofs.Calls.{call_goes, written_reads, read_reads, same_held}
 use Rattle.zone_bay.proofs.Causes.{cause_later, cause_failed}
 use Rattle.zone_bay.proofs.Stretch.{goes_nowhere, goes_join, goes_weaker, no_fault}
-use Rattle.smore_top.specs.Calls.{CallsOn}
+use Rattle.smore_top.specs.DeviceCalls.{CallsOn}
 
 -- no call
 pub no_calls : {T E : Type 0} (device : ℕ) (x : T) (bay : BayState) → CallsOn {E = E} device bay bay (Ok x)

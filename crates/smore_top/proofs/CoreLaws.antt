@@ -11,7 +11,7 @@ use Rattle.smore_top.specs.declared.stored.Stored.{Stored}
 use Rattle.smore_top.specs.Index.{IsKept}
 use Rattle.zone_bay.specs.Outside.{Rose}
 use Rattle.zone_bay.specs.Contents.{Contents, appended, with_zone}
-use Rattle.smore_top.specs.Calls.{CallsOn}
+use Rattle.smore_top.specs.DeviceCalls.{CallsOn}
 use Rattle.smore_top.specs.Blocks.{AppendsInPart}
 use Rattle.object_machine.specs.declared.reply.Reply.{Reply}
 use Rattle.zone_bay.specs.Bay.{BayState}

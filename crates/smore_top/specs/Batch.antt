@@ -28,7 +28,7 @@ pub record TakesCalls (status : ℕ) (entries : List Entry) (input left : List �
 abbrev pub AllButLast : List Entry → List ℕ → List ℕ → Type 0
 AllButLast entries output held = (front : List Entry) × (last : Entry) × (entries ≡ front ++ last ∷ []) × PutsAll (reply_frames front) output held
 
--- The sink got the reply frames in order; where it failed a first part of them, and for want of memory perhaps all but
+-- The sink got the reply frames in order; where it failed a prefix of them, and for want of memory perhaps all but
 -- the last.
 pub record PutsReplies (status : ℕ) (entries : List Entry) (output held : List ℕ) : Type 0 where
   pub whole : (status ≡ 1 → ⊥) → (status ≡ 4 → ⊥) → PutsAll (reply_frames entries) output held

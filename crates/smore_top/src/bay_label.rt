@@ -1,5 +1,5 @@
 ghost use Rattle.std.specs.Prelude.{◌≡◌, ◌<◌, ◌≤◌, ◌↔◌, length, take, replicate, IsTrue, MatchOption, IfSome, IfNone, IfOk};
-ghost use Rattle.smore_top.specs.Calls.{CallsOn};
+ghost use Rattle.smore_top.specs.DeviceCalls.{CallsOn};
 ghost use Rattle.marker_format.specs.Label.{IsLabel};
 ghost use Rattle.smore_top.specs.Label.{IsOfBay, IsLabelOf, BeginsWith, BeginsWithNone, HasLabel, HasNoLabel};
 

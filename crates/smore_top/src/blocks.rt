@@ -1,8 +1,9 @@
 //! An object as blocks in zone 2 of drive 0: `docs/FORMATS.md`, "Blocks".
 ghost use Rattle.std.specs.Prelude.{◌≡◌, ℕ, ◌+◌, ◌*◌, ◌<◌, ◌≤◌, ◌^◌, length, IfSome, IfOk, OnOk, OnErr};
 ghost use Rattle.zone_bay.specs.Contents.{appended};
-ghost use Rattle.zone_bay.specs.Bay.{Becomes};
-ghost use Rattle.smore_top.specs.Calls.{CallsOn};
+ghost use Rattle.zone_bay.specs.Images.{flushed};
+ghost use Rattle.zone_bay.specs.Bay.{Becomes, held_in};
+ghost use Rattle.smore_top.specs.DeviceCalls.{CallsOn};
 ghost use Rattle.smore_top.specs.Blocks.{AppendsInPart};
 ghost use Rattle.smore_top.specs.Blocks.{blocks_of, data_blocks, object_at};
 
@@ -44,6 +45,8 @@ pub(crate) fn append_firm<B: Bay>(bay: &mut B, bytes: &[u8]) -> Result<(), Faile
     requires fits { IfSome (B.state bay.old).contents
         (λ held. length (held 0 2) + length bytes.now ≤ 512 * (B.state bay.old).shape.blocks) }
     ensures ok { OnOk result (Becomes (appended 0 2 bytes.now) (B.state bay.old) (B.state bay.new)) }
+    ensures firm { OnOk result
+        ((B.state bay.new).firm ≡ flushed 0 (held_in (B.state bay.new)) (B.state bay.old).firm) }
     ensures err { OnErr result (AppendsInPart bytes.now (B.state bay.old) (B.state bay.new)) }
     ensures calls { CallsOn 0 (B.state bay.old) (B.state bay.new) result }
 {

@@ -2,7 +2,9 @@ ghost use Rattle.std.specs.Prelude.{◌≡◌, ◌≢◌, ℕ, ◌*◌, ◌<◌,
 ghost use Rattle.smore_base.specs.Geometry.{IsWithinLimits};
 ghost use Rattle.smore_base.specs.Told.{Told};
 ghost use Rattle.zone_bay.specs.Outside.{Rose};
-ghost use Rattle.smore_top.specs.Calls.{CallsOn};
+ghost use Rattle.zone_bay.specs.Images.{flushed};
+ghost use Rattle.zone_bay.specs.Bay.{held_in};
+ghost use Rattle.smore_top.specs.DeviceCalls.{CallsOn};
 ghost use Rattle.marker_format.specs.Block.{label_block};
 ghost use Rattle.smore_top.specs.Label.{IsOfBay, label_of};
 ghost use Rattle.smore_top.specs.Format.{ZoneHolds, AreEmptied, DeviceHolds, IsFormatted};
@@ -61,6 +63,8 @@ fn begin_device<B: Bay>(bay: &mut B, device: u8, block: &[u8]) -> Result<(), Fai
     requires fits { length block.now ≤ 512 * (B.state bay.old).shape.blocks }
     requires empty { IfSome (B.state bay.old).contents (λ held. held device 0 ≡ []) }
     ensures ok { OnOk result (Told (B.state bay.old).contents (B.state bay.new).contents (ZoneHolds device 0 block.now)) }
+    ensures firm { OnOk result
+        ((B.state bay.new).firm ≡ flushed device (held_in (B.state bay.new)) (B.state bay.old).firm) }
     ensures calls { CallsOn device (B.state bay.old) (B.state bay.new) result }
 {
     bay.append(device, 0, block)?;

@@ -1,5 +1,5 @@
 ghost use Rattle.std.specs.Prelude.{◌≡◌, IfSome, IfNone, IfOk};
-ghost use Rattle.smore_top.specs.Calls.{CallsOn};
+ghost use Rattle.smore_top.specs.DeviceCalls.{CallsOn};
 ghost use Rattle.smore_top.specs.Opening.{IsOpenable, OpensWith, OpensWithNone};
 
 use crate::bay_label::read_bay_label;

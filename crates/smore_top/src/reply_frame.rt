@@ -54,7 +54,7 @@ fn push_refusal(out: &mut Vec<u8>, why: &Refusal) -> Result<(), AllocError>
     Ok(())
 }
 
-/// Appends the reply's frame. Where no memory is found, a first part of the frame may stand there.
+/// Appends the reply's frame. Where no memory is found, a prefix of the frame may stand there.
 pub fn write_reply(reply: &Reply, out: &mut Vec<u8>) -> Result<(), Memory>
     requires { length (reply_body reply.now) < 2 ^ 32 }
     ensures { OnOk result (out.new.items ≡ out.old.items ++ reply_frame reply.now) }
@@ -71,7 +71,7 @@ pub fn write_reply(reply: &Reply, out: &mut Vec<u8>) -> Result<(), Memory>
     Ok(())
 }
 
-/// Puts all the bytes. Where the sink fails, it has got a first part of them.
+/// Puts all the bytes. Where the sink fails, it has got a prefix of them.
 pub(crate) fn put_all<K: Sink>(sink: &mut K, bytes: &[u8]) -> Result<(), Failed>
     ensures ok { OnOk result (Told (K.held sink.old) (K.held sink.new) (PutsAll bytes.now)) }
     ensures err { OnErr result (Told (K.held sink.old) (K.held sink.new) (PutsPart bytes.now)) }

@@ -1,6 +1,6 @@
 use Rattle.std.proofs.Common.{◌≡◌, ◌+◌, ◌*◌, ◌-◌, ◌++◌, length, take, drop, IfSome, Ok}
 use Rattle.zone_bay.specs.declared.failed.Failed.{Failed}
-use Rattle.smore_top.specs.Calls.{CallsOn}
+use Rattle.smore_top.specs.DeviceCalls.{CallsOn}
 use Rattle.smore_top.specs.Blocks.{content_from, object_at}
 use Rattle.smore_top.proofs.blocks.read_object.Given as goal
 
