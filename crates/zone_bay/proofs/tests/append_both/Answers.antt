@@ -52,8 +52,8 @@ returns-then-is_err-3-clause-failed g c = fails_toward (Flush 0) _ _ _ _ _ (g.me
 pub returns-clause-done : goal.returns-clause-done
 returns-clause-done g c = made_then (on_both c.args.zone c.args.bytes.now) (λ h. h) _ _ _
     (made_then (appended 0 c.args.zone c.args.bytes.now) (appended 1 c.args.zone c.args.bytes.now) _ _ _
-        (made_of (Append 0 c.args.zone c.args.bytes.now) _ _ _ (cc) c.append.ensures.call)
-        (made_of (Append 1 c.args.zone c.args.bytes.now) _ _ _ (cc) c.append-2.ensures.call))
+    (made_of (Append 0 c.args.zone c.args.bytes.now) _ _ _ (cc) c.append.ensures.call)
+    (made_of (Append 1 c.args.zone c.args.bytes.now) _ _ _ (cc) c.append-2.ensures.call))
     (made_of (Flush 0) _ _ _ (cc) c.flush.ensures.call)
 
 pub returns-clause-firm : goal.returns-clause-firm
