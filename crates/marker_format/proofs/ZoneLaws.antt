@@ -7,7 +7,7 @@ use Rattle.std.proofs.lemmas.List.{append-nil, take_at, take_all, take-take, dro
 use Rattle.marker_format.specs.declared.marker.Marker.{Marker}
 use Rattle.marker_format.specs.Marker.{IsMarker}
 use Rattle.marker_format.specs.Block.{marker_block, marker_in_block}
-use Rattle.marker_format.specs.Zone.{Array, block_at, blocks_of, end_from, belongs, may_stand, IsWhole, Stand, Begin, where_passes, next_at, with_more, records_from, begun, IsPrefix, is_rebuilt, trailer_follows, whole_records}
+use Rattle.marker_format.specs.Zone.{Array, block_at, blocks_of, end_from, belongs, may_stand, IsWhole, Stand, Begin, where_passes, next_at, with_more, records_from, begun, IsPrefix, is_rebuilt, trailer_follows, whole_records, Placed, placed_from, placed_records}
 use Rattle.marker_format.specs.Laws.{Fill, MayFollow}
 use Rattle.marker_format.proofs.BlockLaws.{marker_in_block-is, marker_in_block-again, length-marker_block}
 
@@ -92,6 +92,9 @@ begin-few array bytes ms begin = omega (arith, end_from-length 0 ms, Stand-withi
 pub Begin-begun : (array : Array) (bytes : List ℕ) → Begin array bytes (begun array bytes)
 unfolding begun
 Begin-begun array bytes = Stand-records_from (length bytes / 512) array bytes None 0
+
+pub begun-few : (array : Array) (bytes : List ℕ) → 512 * length (begun array bytes) ≤ length bytes
+begun-few array bytes = omega (arith, begin-few array bytes (begun array bytes) (Begin-begun array bytes))
 
 pub begun-longest : (array : Array) (bytes : List ℕ) (ms : List Marker) → Begin array bytes ms → IsPrefix ms (begun array bytes)
 unfolding begun
@@ -215,3 +218,30 @@ unfolding whole_records
 whole_records-none array bytes marked ends =
     let ms = begun array bytes in
     ap (λ (b : Bool). cond b [] ms) (and_from (is_rebuilt ms) (not (trailer_follows array bytes ms)) marked (ap not ends))
+
+-- ---- where the records stand
+
+Stand-placed : (array : Array) (bytes : List ℕ) (before : Option Marker) (block : ℕ) (ms : List Marker) → Stand array bytes before block ms
+    → (some more : List Placed) (p : Placed) → placed_from block ms ≡ some ++ (p ∷ more) → IsWhole array bytes p.block p.marker
+Stand-placed array bytes before block [] stand [] more p e = absurd cc
+Stand-placed array bytes before block [] stand (x ∷ some) more p e = absurd cc
+Stand-placed array bytes before block (m ∷ ms) stand [] more p e = subst (λ (q : Placed). IsWhole array bytes q.block q.marker) (first_is _ _ _ _ e) stand.0
+  where
+    first_is : (x y : Placed) (xs ys : List Placed) → x ∷ xs ≡ y ∷ ys → x ≡ y
+    first_is x y xs ys e = cc
+Stand-placed array bytes before block (m ∷ ms) stand (x ∷ some) more p e = Stand-placed array bytes (Some m) (block + blocks_of m) ms stand.2 some more p (rest_are _ _ _ _ e)
+  where
+    rest_are : (x y : Placed) (xs ys : List Placed) → x ∷ xs ≡ y ∷ ys → xs ≡ ys
+    rest_are x y xs ys e = cc
+
+-- the whole records are a list that the bytes begin with
+Begin-whole : (array : Array) (bytes : List ℕ) → Begin array bytes (whole_records array bytes)
+unfolding whole_records
+Begin-whole array bytes = either (is_rebuilt (begun array bytes) && not (trailer_follows array bytes (begun array bytes)))
+  where
+    either : (b : Bool) → Begin array bytes (cond b [] (begun array bytes))
+    either true = tt
+    either false = Begin-begun array bytes
+
+pub placed-stand : (array : Array) (bytes : List ℕ) (some more : List Placed) (p : Placed) → placed_records array bytes ≡ some ++ (p ∷ more) → IsWhole array bytes p.block p.marker
+placed-stand array bytes = Stand-placed array bytes None 0 (whole_records array bytes) (Begin-whole array bytes)

@@ -9,7 +9,7 @@ use Rattle.marker_format.specs.Marker as marker
 use Rattle.marker_format.specs.Foot as foot
 use Rattle.marker_format.specs.Label as label
 use Rattle.marker_format.specs.Block.{marker_block, marker_in_block}
-use Rattle.marker_format.specs.Zone.{Array, blocks_of, end_from, belongs, may_stand, Begin, begun, IsPrefix, is_rebuilt, trailer_follows, whole_records}
+use Rattle.marker_format.specs.Zone.{Array, blocks_of, end_from, belongs, may_stand, Begin, begun, IsWhole, IsPrefix, Placed, placed_records, is_rebuilt, trailer_follows, whole_records}
 
 -- Two markers of the same bytes are one.
 abbrev pub MarkersAreApart : Type 0
@@ -42,6 +42,14 @@ OthersArePrefixes = (array : Array) (bytes : List ℕ) (ms : List Marker) → Be
 -- So no list of records that they begin with is longer.
 abbrev pub NoneIsLonger : Type 0
 NoneIsLonger = (array : Array) (bytes : List ℕ) (ms : List Marker) → Begin array bytes ms → length ms ≤ length (begun array bytes)
+
+-- No more of them are given than there are blocks.
+abbrev pub NoMoreThanBlocks : Type 0
+NoMoreThanBlocks = (array : Array) (bytes : List ℕ) → BLOCK_BYTES * length (begun array bytes) ≤ length bytes
+
+-- Each whole record stands at the block that is given with it.
+abbrev pub PlacedStand : Type 0
+PlacedStand = (array : Array) (bytes : List ℕ) (some more : List Placed) (p : Placed) → placed_records array bytes ≡ some ++ (p ∷ more) → IsWhole array bytes p.block p.marker
 
 -- A prefix of a zone's bytes begins with the first ones of its records.
 abbrev pub CutLeavesPrefix : Type 0

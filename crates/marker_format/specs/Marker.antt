@@ -1,7 +1,6 @@
 -- Markers: which are well formed, and the one spelling of each.
 use Rattle.std.specs.Prelude.{◌≡◌, ℕ, ◌+◌, ◌-◌, ◌^◌, ◌<◌, ◌≤◌, Bool, true, false, ◌&&◌, nat_le, nat_lt, ◌==◌, List, [], ◌∷◌, ◌++◌, length, take, drop, replicate, Option, Some, None, codes, if◌then◌else◌}
 use Rattle.std.specs.Int.{w8, w16, w32, w64, div_ceil}
-use Rattle.std.specs.Str.{bytes_eq}
 use Rattle.smore_base.specs.BigEndian.{big_endian, number_at, Fields, spelled}
 use Rattle.smore_base.specs.declared.limits.TheConstants.{MAX_FRAGMENTS, MAX_SHARD_BYTES}
 use Rattle.marker_format.specs.declared.kind.Kind.{Kind}
@@ -162,8 +161,3 @@ marker_at bytes = record {
 -- only zeros stand behind the name
 abbrev pub IsPadded : List ℕ → Type 0
 IsPadded bytes = AreZeros (drop (73 + number_at w8 bytes 72) bytes)
-
--- The marker that the bytes spell, where they spell a well formed one: these laws hold of it, and of nothing else.
---     marker_in bytes ≡ Some m  exactly where  IsMarker m × (bytes ≡ spelling_of m)
-unfoldable pub marker_in : List ℕ → Option Marker
-marker_in bytes = if is_marker (marker_at bytes) && bytes_eq bytes (spelling_of (marker_at bytes)) then Some (marker_at bytes) else None

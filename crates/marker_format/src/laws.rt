@@ -1,7 +1,7 @@
 //! What follows from the formats and from the grammar of a zone. These functions do nothing: their contracts are the
 //! theorems.
 
-ghost use Rattle.marker_format.specs.Laws.{MarkersAreApart, FeetAreApart, LabelsAreApart, TestsAreRules, BlockHolds, RecordsBegin, OthersArePrefixes, NoneIsLonger, CutLeavesPrefix, CutKeepsWhole, MoreKeepsRecords, FilledIsAll, RecordIsAdded, FirstZoneCounts, EndedZoneCounts, OpenRebuiltZoneHasNone};
+ghost use Rattle.marker_format.specs.Laws.{MarkersAreApart, FeetAreApart, LabelsAreApart, TestsAreRules, BlockHolds, RecordsBegin, OthersArePrefixes, NoneIsLonger, NoMoreThanBlocks, PlacedStand, CutLeavesPrefix, CutKeepsWhole, MoreKeepsRecords, FilledIsAll, RecordIsAdded, FirstZoneCounts, EndedZoneCounts, OpenRebuiltZoneHasNone};
 
 /// No two markers, feet or labels have the same bytes.
 pub fn spellings_are_apart()
@@ -21,6 +21,12 @@ pub fn records_are_the_longest()
     ensures begin { RecordsBegin }
     ensures prefixes { OthersArePrefixes }
     ensures longest { NoneIsLonger }
+{}
+
+/// Each whole record stands at its block, and there are no more of them than blocks.
+pub fn records_stand_at_their_blocks()
+    ensures stand { PlacedStand }
+    ensures few { NoMoreThanBlocks }
 {}
 
 /// A cut zone has the first ones of its records, and all that end before the cut.

@@ -20,7 +20,8 @@ pub use kind::Kind;
 pub use label::{LABEL_BYTES, Label, read_label, write_label};
 pub use laws::{
     blocks_hold_markers, cut_zones_have_the_first_records, longer_zones_keep_records,
-    records_are_the_longest, records_count_in_whole_zones, spellings_are_apart,
+    records_are_the_longest, records_count_in_whole_zones, records_stand_at_their_blocks,
+    spellings_are_apart,
 };
 pub use marker::{COUNTER_END, MARKER_BYTES, MAX_RECORDS, Marker, read_marker, write_marker};
 pub use tag::Tag;
