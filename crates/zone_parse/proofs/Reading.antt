@@ -128,6 +128,7 @@ module _ (s : Source) (before after : BayState) (block : List ℕ) (w : Walk) wh
       foot = ap (foot_at bytes) (sym (end_of-some bytes m e));
     });
     ended = tt;
+    nearer = omega (arith, record_in-within s w block m found);
     source = refl;
     kept = tt;
     reads = reads_as s before after block (Some m) read.only;
@@ -142,6 +143,7 @@ module _ (s : Source) (before after : BayState) (block : List ℕ) (w : Walk) wh
       foot = foot-is ∙ ap (holds_foot (foot_seen w.digest w.last)) is ∙ foot_shown bytes w.block (foot_seen w.digest w.last) ∙ ap (foot_at bytes) (sym (end_of-none bytes e));
     });
     ended = tt;
+    nearer = tt;
     source = refl;
     kept = tt;
     reads = reads_as s before after block None read.only;
@@ -153,6 +155,7 @@ module _ (s : Source) (before after : BayState) (block : List ℕ) (w : Walk) wh
   again_some m left foot read found = record {
     gives = stepped (Some m) _ read found (λ bytes e is. record { records = records_again-some left zone_array bytes w m e; foot = refl });
     ended = tt;
+    nearer = omega (arith, record_in-within s w block m found);
     source = refl;
     kept = tt;
     reads = reads_as s before after block (Some m) read.only;
@@ -164,6 +167,7 @@ module _ (s : Source) (before after : BayState) (block : List ℕ) (w : Walk) wh
   again_none left foot read found = record {
     gives = stepped None _ read found (λ bytes e is. record { records = records_again-none (suc left) zone_array bytes w e; foot = refl });
     ended = tt;
+    nearer = tt;
     source = refl;
     kept = tt;
     reads = reads_as s before after block None read.only;
@@ -177,6 +181,7 @@ unfolding records_from
 again_zero s bay w foot inside = record {
   gives = if_some-map (λ bytes. length bytes ≡ s.written) _ (held_at s bay) inside.written (λ bytes e. record { records = refl; foot = refl });
   ended = tt;
+  nearer = tt;
   source = refl;
   kept = tt;
   reads = nothing_read s bay None;
@@ -189,6 +194,7 @@ pub ended_again : (s : Source) (bay : BayState) (foot : Bool) → IsIn bay s →
 ended_again s bay foot inside = record {
   gives = if_some-map (λ bytes. length bytes ≡ s.written) _ (held_at s bay) inside.written (λ bytes e. record { records = refl; foot = refl });
   ended = tt;
+  nearer = tt;
   source = refl;
   kept = tt;
   reads = nothing_read s bay None;
@@ -251,6 +257,7 @@ module _ (s : Source) (before mid after : BayState) (block : List ℕ) where
         let whole = whole_records-first ours bytes (ap is_rebuilt none) ∙ none in
         record { records = whole; foot = sym (has_foot-none ours bytes whole) });
     ended = tt;
+    nearer = tt;
     source = refl;
     kept = tt;
     reads = reads_as s before mid block None read.only;
@@ -265,6 +272,7 @@ module _ (s : Source) (before mid after : BayState) (block : List ℕ) where
         let whole = whole_records-first ours bytes (ap is_rebuilt all ∙ first) in
         record { records = whole ∙ all; foot = sym (has_foot-begun ours bytes whole ∙ ap (λ (ms : List Marker). foot_at bytes (behind_all start ms)) all) });
     ended = tt;
+    nearer = omega (arith, record_in-within s start block head found);
     source = refl;
     kept = tt;
     reads = reads_as s before mid block (Some head) read.only;
@@ -307,6 +315,7 @@ module _ (s : Source) (before mid after : BayState) (block : List ℕ) where
           foot = is.2 ∙ ap (foot_at bytes) (sym (end_is bytes head all)) ∙ sym (has_foot-begun ours bytes whole);
         });
     ended = tt;
+    nearer = omega (arith, record_in-within s start block head found);
     source = refl;
     kept = tt;
     reads = reads_then s before mid after block (Ok (Some head)) read.only (reads_as s mid after (counted_end left foot) (Some head) ends.only);
@@ -326,6 +335,7 @@ module _ (s : Source) (before mid after : BayState) (block : List ℕ) where
         let whole = whole_records-none ours bytes (ap is_rebuilt all ∙ mark) (sym (trailer_is bytes head all) ∙ open_end) in
         record { records = whole; foot = sym (has_foot-none ours bytes whole) });
     ended = tt;
+    nearer = tt;
     source = refl;
     kept = tt;
     reads = reads_then s before mid after block (Ok None) read.only (reads_as s mid after None None ends.only);
@@ -338,6 +348,7 @@ module _ (s : Source) (before mid after : BayState) (block : List ℕ) where
   first_lost head lost read found mark ends = record {
     gives = if_some-map (λ bytes. length bytes ≡ s.written) _ (held_at s before) read.inside.written (λ bytes e. tt);
     ended = tt;
+    nearer = tt;
     source = refl;
     kept = refl;
     reads = reads_then s before mid after block (Err lost) read.only (fails_as s mid after lost ends.only);

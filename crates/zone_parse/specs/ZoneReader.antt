@@ -1,5 +1,5 @@
 -- What a reader of a zone has still to give.
-use Rattle.std.specs.Prelude.{◌≡◌, ℕ, ◌+◌, ◌*◌, ◌<◌, ◌≤◌, Bool, ◌&&◌, nat_le, List, [], length, Option, None, Some, option_map, IfSome, IfNone, IfOk, IfErr, Result, OnOk, OnErr, IsErr, if◌then◌else◌}
+use Rattle.std.specs.Prelude.{◌≡◌, ℕ, ◌+◌, ◌-◌, ◌*◌, ◌<◌, ◌≤◌, Bool, ◌&&◌, nat_le, List, [], length, Option, None, Some, option_map, IfSome, IfNone, IfOk, IfErr, Result, OnOk, OnErr, IsErr, if◌then◌else◌}
 use Rattle.smore_base.specs.declared.limits.TheConstants.{BLOCK_BYTES}
 use Rattle.zone_bay.specs.Outside.{HasCause}
 use Rattle.zone_bay.specs.Bay.{BayState}
@@ -94,6 +94,17 @@ foot_left r bytes = foot_in (array_of r.source) r.progress bytes
 abbrev pub reads_left : ZoneReader → List ℕ → ℕ
 reads_left r bytes = reads_in (array_of r.source) r.progress bytes
 
+-- the block that the reader has come to
+abbrev pub place_of : Progress → ℕ
+place_of Fresh = 0
+place_of (Walking w) = w.block
+place_of (Again w left foot) = w.block
+place_of (Ended foot) = 0
+
+-- How many bytes of the zone stand from there on. Each record takes some of them, whatever the bay tells.
+abbrev pub bytes_left : ZoneReader → ℕ
+bytes_left r = r.source.written - BLOCK_BYTES * place_of r.progress
+
 -- the reader gave its last record, and said that there is no other
 abbrev pub IsEndedAt : Progress → Type 0
 IsEndedAt (Ended foot) = Unit {0}
@@ -141,6 +152,8 @@ pub record IsNext (old new : ZoneReader) (before after : BayState) (result : Res
   -- it gives the next record, and after the last one none
   pub gives : IfSome (bytes_in old before) (λ bytes. IfOk result (λ found. Gives old new found bytes))
   pub ended : IfOk result (λ found. IfNone found (IsEnded new))
+  -- a record takes some of the bytes that are left
+  pub nearer : IfOk result (λ found. IfSome found (λ _. bytes_left new < bytes_left old))
   -- the zone stays, and where the device is lost, so does the reader
   pub source : SameZone old new
   pub kept : OnErr result (new ≡ old)

@@ -4,7 +4,7 @@ ghost use Rattle.std.specs.Prelude.{IfOk};
 ghost use Rattle.zone_parse.specs.ZoneReader.{CanRead};
 
 use super::*;
-use Block::{Data, Foot, Record};
+use Block::{Data, Foot, Ready, Record};
 use bay_memory::MemoryBay;
 use smore_base::Geometry;
 use std::alloc::Global;
@@ -32,6 +32,8 @@ enum Block {
     Foot(u8, u8, u8),
     /// Bytes of an object, which are a whole marker block: that of a put at position 3.
     Data,
+    /// A ready record at position 1, with this byte of its block changed.
+    Ready(usize, u8),
 }
 
 /// The bytes of the block, each field at its place.
@@ -72,6 +74,15 @@ fn bytes_of(block: Block) -> [u8; 512] {
             out[27] = count;
         }
         Data => return bytes_of_put(),
+        Ready(at, byte) => {
+            out[..13].copy_from_slice(b"\x01SMOREMK1\x06\0\x01\x02");
+            out[20] = 1;
+            out[22] = 1;
+            out[57..73].copy_from_slice(&ARRAY);
+            if at < 512 {
+                out[at] = byte;
+            }
+        }
     }
     out
 }
@@ -102,7 +113,7 @@ const PART: Block = Record(2, 2, 0, 0, 5);
 const PUT: Block = Record(3, 3, 0, 1, 0);
 
 /// The blocks of a zone, the kinds of its whole records, and whether a whole foot follows.
-const ZONES: [(&[Block], u64, bool); 19] = [
+const ZONES: [(&[Block], u64, bool); 31] = [
     // open
     (&[HEAD, READY, PART, Data, PUT], 1623, false),
     // closed
@@ -206,6 +217,66 @@ const ZONES: [(&[Block], u64, bool); 19] = [
         0,
         false,
     ),
+    // rebuilt, and its trailer is behind the first of two digest records
+    (
+        &[
+            MARKED_HEAD,
+            READY,
+            Record(7, 2, 0, 2, 5),
+            Data,
+            Record(9, 3, 0, 0, 0),
+        ],
+        167,
+        false,
+    ),
+    // rebuilt, and a foot with another number stands before its trailer
+    (
+        &[
+            MARKED_HEAD,
+            READY,
+            Record(7, 2, 0, 1, 5),
+            Data,
+            Foot(2, 2, 2),
+            Record(9, 3, 0, 0, 0),
+        ],
+        0,
+        false,
+    ),
+    // a record behind the foot
+    (
+        &[
+            HEAD,
+            READY,
+            Record(7, 2, 0, 1, 5),
+            Data,
+            Foot(2, 2, 1),
+            Record(6, 3, 0, 0, 0),
+        ],
+        167,
+        true,
+    ),
+    // records behind the trailer
+    (&[MARKED_HEAD, Record(9, 1, 0, 0, 0), READY], 1, false),
+    // a trailer in a zone that isn't rebuilt
+    (
+        &[HEAD, Record(9, 1, 0, 0, 0), Record(6, 2, 0, 0, 0)],
+        1,
+        false,
+    ),
+    // a ready record with nothing changed
+    (&[HEAD, Ready(0, 1)], 16, false),
+    // of another set
+    (&[HEAD, Ready(20, 2)], 1, false),
+    // of another index
+    (&[HEAD, Ready(10, 1)], 1, false),
+    // of another code
+    (&[HEAD, Ready(12, 3)], 1, false),
+    // of another array
+    (&[HEAD, Ready(57, b'1')], 1, false),
+    // under another tag
+    (&[HEAD, Ready(0, 2)], 1, false),
+    // a byte behind the marker
+    (&[HEAD, Ready(511, 1)], 1, false),
 ];
 
 /// The kinds of the reader's records as digits, and whether a foot follows.

@@ -223,7 +223,7 @@ impl Source {
 
 impl ZoneReader {
     ghost use Rattle.zone_parse.specs.declared.zone_reader.Progress.TheVariants.{Fresh, Walking, Again};
-    ghost use Rattle.zone_parse.specs.ZoneReader.{Reads, CanRead, bytes_in, device_of, faults_of, records_left, foot_left, reads_left, reads_for, IsEnded, Gives, Spends, SameZone, IsNext};
+    ghost use Rattle.zone_parse.specs.ZoneReader.{Reads, CanRead, bytes_in, device_of, faults_of, records_left, foot_left, reads_left, reads_for, bytes_left, IsEnded, Gives, Spends, SameZone, IsNext};
 
     /// A reader of the zone, which holds so many bytes. The geometry and the array are those of its label.
     pub fn new(
@@ -262,6 +262,9 @@ impl ZoneReader {
         ensures gives { IfSome (bytes_in self.old (B.state bay.old))
             (λ bytes. IfOk result (λ found. Gives self.old self.new found bytes)) }
         ensures ended { IfOk result (λ found. IfNone found (IsEnded self.new)) }
+
+        // Each record takes some of the bytes that are left, so records end, also where the bay doesn't tell what it holds.
+        ensures nearer { IfOk result (λ found. IfSome found (λ _. bytes_left self.new < bytes_left self.old)) }
 
         // The device is lost only where its count of faults says so; a call on it failed over what was held, and the reader
         // is as it was.
