@@ -4,7 +4,7 @@ ghost use Rattle.std.specs.Prelude.{IfOk};
 ghost use Rattle.zone_parse.specs.ZoneReader.{CanRead};
 
 use super::*;
-use Block::{Data, Foot, Ready, Record};
+use Block::{Data, Foot, Half, Ready, Record};
 use bay_memory::MemoryBay;
 use smore_base::Geometry;
 use std::alloc::Global;
@@ -23,7 +23,7 @@ const GEOMETRY: Geometry = Geometry {
 
 const ARRAY: [u8; 16] = *b"0123456789abcdef";
 
-/// A block of a zone of set 1, index 0.
+/// A block of a zone of set 2, index 0.
 #[derive(Clone, Copy)]
 enum Block {
     /// Kind, position, part, parts and bytes of the payload.
@@ -32,6 +32,8 @@ enum Block {
     Foot(u8, u8, u8),
     /// Bytes of an object, which are a whole marker block: that of a put at position 3.
     Data,
+    /// The same as half of an object: its bytes begin with that marker.
+    Half,
     /// A ready record at position 1, with this byte of its block changed.
     Ready(usize, u8),
 }
@@ -46,7 +48,7 @@ fn bytes_of(block: Block) -> [u8; 512] {
             out[9] = kind;
             out[11] = 1;
             out[12] = 2;
-            out[20] = 1;
+            out[20] = 2;
             out[22] = position;
             out[24] = payload;
             if kind == 3 {
@@ -56,8 +58,8 @@ fn bytes_of(block: Block) -> [u8; 512] {
                 out[73] = 1;
                 out[74] = b'a';
             }
-            if kind == 2 || kind == 3 {
-                // an upload
+            if kind == 2 || kind == 3 || kind == 5 {
+                // an upload, or the set that is cut
                 out[40] = 1;
             }
             out[44] = part;
@@ -68,15 +70,19 @@ fn bytes_of(block: Block) -> [u8; 512] {
         Foot(position, block, count) => {
             out[0] = 3;
             out[1..9].copy_from_slice(b"SMOREFT1");
-            out[16] = 1;
+            out[16] = 2;
             out[19] = position;
             out[23] = block;
             out[27] = count;
         }
         Data => return bytes_of_put(),
+        Half => {
+            out = bytes_of_put();
+            out[0] = 2;
+        }
         Ready(at, byte) => {
             out[..13].copy_from_slice(b"\x01SMOREMK1\x06\0\x01\x02");
-            out[20] = 1;
+            out[20] = 2;
             out[22] = 1;
             out[57..73].copy_from_slice(&ARRAY);
             if at < 512 {
@@ -91,7 +97,7 @@ fn bytes_of_put() -> [u8; 512] {
     let mut out = [0; 512];
     out[..9].copy_from_slice(b"\x01SMOREMK1");
     out[9..13].copy_from_slice(b"\x03\0\x01\x02");
-    out[20] = 1;
+    out[20] = 2;
     out[22] = 3;
     out[32] = 1;
     out[40] = 1;
@@ -113,7 +119,7 @@ const PART: Block = Record(2, 2, 0, 0, 5);
 const PUT: Block = Record(3, 3, 0, 1, 0);
 
 /// The blocks of a zone, the kinds of its whole records, and whether a whole foot follows.
-const ZONES: [(&[Block], u64, bool); 31] = [
+const ZONES: [(&[Block], u64, bool); 33] = [
     // open
     (&[HEAD, READY, PART, Data, PUT], 1623, false),
     // closed
@@ -148,6 +154,22 @@ const ZONES: [(&[Block], u64, bool); 31] = [
         1627,
         true,
     ),
+    // rebuilt, closed, with a cut
+    (
+        &[
+            MARKED_HEAD,
+            Record(5, 1, 0, 0, 0),
+            Record(6, 2, 0, 0, 0),
+            Record(2, 3, 0, 0, 5),
+            Half,
+            Record(7, 4, 0, 1, 5),
+            Half,
+            Foot(4, 5, 1),
+            Record(9, 5, 0, 0, 0),
+        ],
+        15_627,
+        true,
+    ),
     // rebuilt, settled by a cut
     (
         &[MARKED_HEAD, READY, PART, Data, Record(9, 3, 0, 0, 0)],
@@ -160,6 +182,8 @@ const ZONES: [(&[Block], u64, bool); 31] = [
     (&[READY], 0, false),
     // an object's bytes that are a marker, where the next record would stand without them
     (&[HEAD, READY, PART, Data], 162, false),
+    // half of an object that begins with a marker
+    (&[HEAD, READY, PART, Half], 162, false),
     // the last block of a record is missing
     (&[HEAD, READY, PART], 16, false),
     // a second head
@@ -266,7 +290,7 @@ const ZONES: [(&[Block], u64, bool); 31] = [
     // a ready record with nothing changed
     (&[HEAD, Ready(0, 1)], 16, false),
     // of another set
-    (&[HEAD, Ready(20, 2)], 1, false),
+    (&[HEAD, Ready(20, 3)], 1, false),
     // of another index
     (&[HEAD, Ready(10, 1)], 1, false),
     // of another code
