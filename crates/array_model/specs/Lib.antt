@@ -1,0 +1,4 @@
+pub mod Map
+pub mod Need
+pub mod Record
+pub mod Sets
