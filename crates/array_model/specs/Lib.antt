@@ -1,4 +1,5 @@
 pub mod Map
 pub mod Need
 pub mod Record
+pub mod SetLaws
 pub mod Sets

@@ -55,7 +55,7 @@ object_of items upload parts bytes = object_by upload parts bytes (parts_from it
 -- what a note says of its name
 abbrev pub said_by : List Record → Option Record → Option Value
 said_by items (Some (Put name stamp upload parts bytes)) = Some (object_of items upload parts bytes)
-said_by items note = None
+said_by items other = None
 
 -- what a name stands for
 abbrev pub value_of : List Record → List ℕ → Option Value

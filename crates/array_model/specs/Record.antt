@@ -18,6 +18,7 @@ pub data Record : Type 0 where
   Digest : (part parts : ℕ) (payload : List ℕ) → Record
   -- a part of a list of other sets' records, of so many parts and bytes
   Snapshot : (stamp part parts bytes : ℕ) (payload : List ℕ) → Record
+  deriving Discrete as Record-discrete
 
 abbrev pub is_ready : Record → Bool
 is_ready Ready = true

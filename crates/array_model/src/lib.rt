@@ -1,3 +1,7 @@
 //! What an array says: which of its records are valid, what each name stands for, and which records are needed. These are
 //! definitions; the functions here do nothing, and their contracts are laws of them.
 #![tactic(auto)]
+
+mod laws;
+
+pub use laws::{map_is_what_is_read, newest_note_is_greatest, unneeded_sets_may_go};

@@ -1,0 +1,7 @@
+pub mod Records
+pub mod Thinned
+pub mod Notes
+pub mod Snapshots
+pub mod Sets
+pub mod MapLaws
+pub mod UnneededSets

@@ -1,0 +1,193 @@
+-- Why unneeded sets may go.
+--
+-- Compare what is valid before and after the loss, from the highest set down. A set that stands afterwards stood before,
+-- and its records are cut to the least number that valid cuts of higher sets keep of it: this number must stay. The records
+-- that go are those of sets that stand no more, so none of them was needed. If one was a cut of a set that still has a
+-- carrier, then, since it wasn't needed, a later valid cut keeps as few, and the least is the same without it. So each set
+-- that still stands is cut to the same number, and what is valid afterwards is what was valid, without some records that
+-- weren't needed.
+-- Of each record that was wanted the first copy was needed, so it is still there. So the newest note of a name stays the
+-- newest: another could only have the same stamp, and then it is an equal note. The first copies of its parts stay the
+-- first. And a snapshot that is complete now was complete, while the newest that was complete still is.
+use Rattle.std.proofs.Common.{◌≡◌, ℕ, ◌<◌, ◌≤◌, Bool, true, false, List, [], ◌∷◌, ◌++◌, Option, inl, inr, refl, sym, ap, ◌∙◌, subst, subst₂, true≢false, append_assoc, append-nil, arith}
+use Rattle.std.specs.List.{AllZip, AllByRecursion}
+use Rattle.array_model.specs.Record.{Record}
+use Rattle.array_model.specs.Sets.{ReadSet, Placed, stands, cut_to, kept_by, placed_from, valid, records_of, HasCarrier}
+use Rattle.array_model.specs.Map.{items_of, value_in}
+use Rattle.array_model.specs.Need.{IsNeeded, IsNeededSet}
+use Rattle.array_model.specs.SetLaws.{LosesCarriers, LosesUnneeded, NotesAreOne, SaysTheSame, AreEnough, UnneededSetsMayGo, LossesFollow, FirstNeedIsEnough}
+use Rattle.array_model.proofs.Sets.{kept_least, cut_records, read_standing, read_fallen, placed_in, standing_carriers, stands_with}
+use Rattle.array_model.proofs.Thinned.{Thin, Counts, nothing, stays, goes, least_stays, no_more, wanted_stays, part_stays, fewer_thin, StoodAt, stood, among_items, item_among}
+use Rattle.array_model.proofs.Records.{contains_from_among, among_from_contains, least_at_most, least_is_there}
+use Rattle.array_model.proofs.Notes.{KeepsWanted, value_stays}
+use Rattle.array_model.proofs.Snapshots.{wanted_was}
+use Rattle.array_model.proofs.MapLaws.{same_values_same_map}
+
+module _ (k : ℕ) (uploads : List ℕ) (all : List ReadSet) where
+  -- These stay,
+  all_stay : (mine before old new : List Placed) → Thin k uploads all (before ++ mine) old new → Thin k uploads all before (mine ++ old) (mine ++ new)
+  all_stay [] before old new rest = subst (λ b. Thin k uploads all b old new) (append-nil before) rest
+  all_stay (it ∷ mine) before old new rest = stays it (all_stay mine (before ++ it ∷ []) old new (subst (λ b. Thin k uploads all b old new) (sym (append_assoc before (it ∷ []) mine)) rest))
+
+  -- or these go, where none of them counts.
+  all_go : (mine before old new : List Placed) (set : ℕ) → AllByRecursion (λ (it : Placed). it.set ≡ set) mine → (IsNeededSet k uploads all set → ⊥) → records_of k all ≡ before ++ (mine ++ old) → Thin k uploads all (before ++ mine) old new → Thin k uploads all before (mine ++ old) new
+  all_go [] before old new set own unneeded is rest = subst (λ b. Thin k uploads all b old new) (append-nil before) rest
+  all_go (it ∷ mine) before old new set own unneeded is rest =
+      goes it (λ counts. unneeded (it, record { before = before; after = mine ++ old; valid = is; why = counts }, own.0))
+      (all_go mine (before ++ it ∷ []) old new set own.1 unneeded (is ∙ sym (append_assoc before (it ∷ []) (mine ++ old))) (subst (λ b. Thin k uploads all b old new) (sym (append_assoc before (it ∷ []) mine)) rest))
+
+  -- A set that stands before and after is cut to the same number, since the sets above keep the least of it.
+  same_cut : (set set' : ReadSet) (old new : List ReadSet) (before : List Placed) → LosesCarriers set set' → HasCarrier all set.id → Thin k uploads all before (records_of k old) (records_of k new) → cut_records k set' new ≡ cut_records k set old
+  same_cut set set' old new before fewer there rest =
+      let kept : kept_by set.id (valid k new) ≡ kept_by set.id (valid k old) = kept_least set.id (valid k new) ∙ least_stays k uploads all set.id there rest ∙ sym (kept_least set.id (valid k old)) in
+      ap (λ (id : ℕ). placed_from id 0 (cut_to (kept_by id (valid k new)) set'.records)) fewer.id
+      ∙ ap (λ (items : List Record). placed_from set.id 0 (cut_to (kept_by set.id (valid k new)) items)) fewer.records
+      ∙ ap (λ (n : Option ℕ). placed_from set.id 0 (cut_to n set.records)) kept
+
+  -- One set more, below those for which it holds.
+  one_more : 0 < k → (set set' : ReadSet) (old new : List ReadSet) (before : List Placed) → LosesCarriers set set' → (IsNeededSet k uploads all set'.id → k ≤ set'.carriers) → (0 < set.carriers → HasCarrier all set.id) → records_of k all ≡ before ++ records_of k (set ∷ old) → ((ahead : List Placed) → records_of k all ≡ ahead ++ records_of k old → Thin k uploads all ahead (records_of k old) (records_of k new)) → (b b' : Bool) → stands k set ≡ b → stands k set' ≡ b' → Thin k uploads all before (records_of k (set ∷ old)) (records_of k (set' ∷ new))
+  one_more some set set' old new before fewer enough there is again true true was still =
+      let mine = cut_records k set old in
+      let was_read = read_standing k set old was in
+      let rest = again (before ++ mine) (is ∙ ap (λ r. before ++ r) was_read ∙ sym (append_assoc before mine (records_of k old))) in
+      let k_carriers = standing_carriers k set was in
+      let same = same_cut set set' old new (before ++ mine) fewer (there (omega arith)) rest in
+      subst₂ (λ o n. Thin k uploads all before o n) (sym was_read) (sym (read_standing k set' new still ∙ ap (λ m. m ++ records_of k new) same))
+      (all_stay mine before (records_of k old) (records_of k new) rest)
+  one_more some set set' old new before fewer enough there is again true false was falls =
+      let mine = cut_records k set old in
+      let was_read = read_standing k set old was in
+      let is' : records_of k all ≡ before ++ (mine ++ records_of k old) = is ∙ ap (λ r. before ++ r) was_read in
+      let unneeded : IsNeededSet k uploads all set.id → ⊥ = (λ needed.
+      let still = stands_with k set set' fewer.records was (enough (subst (λ id. IsNeededSet k uploads all id) (sym fewer.id) needed)) in
+      true≢false (sym still ∙ falls)) in
+      subst₂ (λ o n. Thin k uploads all before o n) (sym was_read) (sym (read_fallen k set' new falls))
+      (all_go mine before (records_of k old) (records_of k new) set.id (placed_in set.id 0 (cut_to (kept_by set.id (valid k old)) set.records)) unneeded is' (again (before ++ mine) (is' ∙ sym (append_assoc before mine (records_of k old)))))
+  one_more some set set' old new before fewer enough there is again false true fell still =
+      let many = standing_carriers k set' still in
+      let few = fewer.carriers in
+      absurd (true≢false (sym (stands_with k set' set (sym fewer.records) still (omega arith)) ∙ fell))
+  one_more some set set' old new before fewer enough there is again false false fell falls =
+      subst₂ (λ o n. Thin k uploads all before o n) (sym (read_fallen k set old fell)) (sym (read_fallen k set' new falls))
+      (again before (is ∙ ap (λ r. before ++ r) (read_fallen k set old fell)))
+
+  thin : 0 < k → (old new : List ReadSet) (before : List Placed) → records_of k all ≡ before ++ records_of k old → ((id : ℕ) → HasCarrier old id → HasCarrier all id) → AllZip LosesCarriers old new → AllByRecursion (λ set. IsNeededSet k uploads all set.id → k ≤ set.carriers) new → Thin k uploads all before (records_of k old) (records_of k new)
+  thin some [] [] before is there fewer enough = nothing
+  thin some [] (set' ∷ new) before is there fewer enough = absurd fewer
+  thin some (set ∷ old) [] before is there fewer enough = absurd fewer
+  thin some (set ∷ old) (set' ∷ new) before is there fewer enough =
+      one_more some set set' old new before fewer.0 enough.0 (λ has. there set.id (inl (refl, has))) is
+      (λ ahead is'. thin some old new ahead is' (λ id has. there id (inr has)) fewer.1 enough.1)
+      (stands k set) (stands k set') refl refl
+
+-- A set with a carrier had one.
+has_carrier_was : (old new : List ReadSet) → AllZip LosesCarriers old new → (id : ℕ) → HasCarrier new id → HasCarrier old id
+has_carrier_was [] [] fewer id has = has
+has_carrier_was [] (set' ∷ new) fewer id has = absurd fewer
+has_carrier_was (set ∷ old) [] fewer id has = absurd has
+has_carrier_was (set ∷ old) (set' ∷ new) fewer id (inl here) = let less = fewer.0.carriers in let some = here.1 in inl (sym fewer.0.id ∙ here.0, omega arith)
+has_carrier_was (set ∷ old) (set' ∷ new) fewer id (inr later) = inr (has_carrier_was old new fewer.1 id later)
+
+module _ (k : ℕ) (uploads : List ℕ) (old new : List ReadSet) (some : 0 < k) (notes : NotesAreOne k old) (loses : LosesUnneeded k uploads old new) where
+  whole : Thin k uploads old [] (records_of k old) (records_of k new)
+  whole = thin k uploads old some old new [] refl (λ id has. has) loses.fewer loses.enough
+
+  keeps : KeepsWanted uploads (items_of (records_of k old)) (items_of (records_of k new))
+  keeps = record {
+    no_more = λ item found. no_more k uploads old item whole found;
+    fewer = λ test. fewer_thin k uploads old test whole;
+    wanted = λ item wanted found. wanted_stays k uploads old item wanted (λ copy among is. omega arith) whole found;
+    parts = λ upload part wanted. part_stays k uploads old upload part wanted (λ other among. absurd (omega arith)) whole;
+    one = λ name stamp one other found also is as_well. notes name stamp one other (contains_from_among _ _ found) (contains_from_among _ _ also) is as_well;
+  }
+
+  -- What is needed was needed, at its place: a copy that stood before it would still stand there, and so would a later cut
+  -- that keeps as few.
+  needed_was : (it : Placed) → IsNeeded k uploads new it → IsNeeded k uploads old it
+  needed_was it needed = record { before = at.earlier; after = at.later; valid = at.place; why = why needed.why }
+    where
+      at : StoodAt k uploads old [] (records_of k old) it needed.before needed.after
+      at = stood k uploads old it needed.before needed.after whole needed.valid
+
+      why : Counts k uploads new needed.before it needed.after → Counts k uploads old at.earlier it at.later
+      why (inl wanted) =
+          let was = wanted_was uploads (items_of (records_of k old)) (items_of (records_of k new)) keeps it.item wanted.0 in
+          inl (
+            was,
+            λ copy found is.
+                let ahead = at.copies it.item was (λ other none same. omega arith) (among_items at.earlier copy it.item (among_from_contains at.earlier copy found) is) in
+                let still = item_among needed.before it.item ahead in
+                wanted.1 still.0 (contains_from_among needed.before still.0 still.1) still.2,
+          )
+      why (inr last) =
+          let has = has_carrier_was old new loses.fewer last.0 last.3 in
+          inr (
+            last.0,
+            last.1,
+            last.2,
+            has,
+            λ later found cuts.
+                let least = least_at_most last.0 cuts.0 (items_of at.later) (among_items at.later later _ (among_from_contains at.later later found) cuts.2) in
+                let there = item_among needed.after _ (least_is_there last.0 least.0 (items_of needed.after) (at.least last.0 has ∙ least.1)) in
+                let low = least.2 in let high = cuts.1 in
+                last.4 there.0 (contains_from_among needed.after there.0 there.1) (least.0, omega arith, there.2),
+          )
+
+  says_the_same : SaysTheSame k uploads old new
+  says_the_same =
+      let same : (name : List ℕ) → value_in k new name ≡ value_in k old name = (λ name. value_stays uploads (items_of (records_of k old)) (items_of (records_of k new)) keeps name) in
+      record {
+        map = same_values_same_map k old new same;
+        value = same;
+        needed = needed_was;
+        notes = λ name stamp one other found also is as_well. keeps.one name stamp one other (keeps.no_more one (among_from_contains _ one found)) (keeps.no_more other (among_from_contains _ other also)) is as_well;
+      }
+
+pub unneeded_sets_may_go : UnneededSetsMayGo
+unneeded_sets_may_go k uploads old new some notes loses = says_the_same k uploads old new some notes loses
+
+-- Losses add up.
+fewer_still : (old mid new : List ReadSet) → AllZip LosesCarriers old mid → AllZip LosesCarriers mid new → AllZip LosesCarriers old new
+fewer_still [] [] [] one other = tt
+fewer_still [] [] (set'' ∷ new) one other = absurd other
+fewer_still [] (set' ∷ mid) new one other = absurd one
+fewer_still (set ∷ old) [] new one other = absurd one
+fewer_still (set ∷ old) (set' ∷ mid) [] one other = absurd other
+fewer_still (set ∷ old) (set' ∷ mid) (set'' ∷ new) one other =
+    let some = one.0.carriers in
+    let more = other.0.carriers in
+    (record { id = other.0.id ∙ one.0.id; records = other.0.records ∙ one.0.records; carriers = omega arith }, fewer_still old mid new one.1 other.1)
+
+pub losses_follow : LossesFollow
+losses_follow k uploads old mid new some notes one other =
+    let first = unneeded_sets_may_go k uploads old mid some notes one in
+    let then = unneeded_sets_may_go k uploads mid new some first.notes other in
+    record {
+      map = then.map ∙ first.map;
+      value = λ name. then.value name ∙ first.value name;
+      needed = λ it needed. first.needed it (then.needed it needed);
+      notes = then.notes;
+    }
+
+-- What has enough carriers in the end had enough before.
+enough_before : (k : ℕ) (uploads : List ℕ) (all old new : List ReadSet) → AllZip LosesCarriers old new → AreEnough k uploads all new → AreEnough k uploads all old
+enough_before k uploads all [] [] fewer enough = tt
+enough_before k uploads all [] (set' ∷ new) fewer enough = absurd fewer
+enough_before k uploads all (set ∷ old) [] fewer enough = absurd fewer
+enough_before k uploads all (set ∷ old) (set' ∷ new) fewer enough = (
+  (λ needed.
+      let many = enough.0 (subst (λ id. IsNeededSet k uploads all id) (sym fewer.0.id) needed) in
+      let less = fewer.0.carriers in
+      omega arith),
+  enough_before k uploads all old new fewer.1 enough.1,
+)
+
+enough_after : (k : ℕ) (uploads : List ℕ) (old mid new : List ReadSet) → ((id : ℕ) → IsNeededSet k uploads mid id → IsNeededSet k uploads old id) → AreEnough k uploads old new → AreEnough k uploads mid new
+enough_after k uploads old mid [] was enough = tt
+enough_after k uploads old mid (set ∷ new) was enough = ((λ needed. enough.0 (was set.id needed)), enough_after k uploads old mid new was enough.1)
+
+pub first_need_is_enough : FirstNeedIsEnough
+first_need_is_enough k uploads old mid new some notes one other enough =
+    let first : LosesUnneeded k uploads old mid = record { fewer = one; enough = enough_before k uploads old mid new other enough } in
+    let same = unneeded_sets_may_go k uploads old mid some notes first in
+    (first, record { fewer = other; enough = enough_after k uploads old mid new (λ id needed. (needed.0, same.needed needed.0 needed.1, needed.2)) enough })
