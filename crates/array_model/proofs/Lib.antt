@@ -1,7 +1,11 @@
 pub mod Records
+pub mod Objects
+pub mod MapLaws
 pub mod Thinned
 pub mod Notes
 pub mod Snapshots
 pub mod Sets
-pub mod MapLaws
 pub mod UnneededSets
+pub mod Appended
+pub mod Behind
+pub mod Copies

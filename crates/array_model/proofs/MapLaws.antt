@@ -17,7 +17,7 @@ use Rattle.array_model.proofs.Records.{Among, the_newest, NewestIs, newest_is}
 tied : (name own : List ℕ) → eq_by_cmp (slice_cmp nat_cmp) name own ≡ bytes_eq own name
 tied name own = (eq_by_cmp_equiv nat_list_cmp_total).symm name own ∙ is_eq-slice_cmp own name
 
-get_with : (own name : List ℕ) (value : Option Value) (objects : Map) → finmap.get (with_value own value objects) name ≡ cond (bytes_eq own name) value (finmap.get objects name)
+pub get_with : (own name : List ℕ) (value : Option Value) (objects : Map) → finmap.get (with_value own value objects) name ≡ cond (bytes_eq own name) value (finmap.get objects name)
 get_with own name None objects = finmap.get-remove nat_list_cmp_total objects own name ∙ ap (λ b. cond b None (finmap.get objects name)) (tied name own)
 get_with own name (Some value) objects = finmap.get-insert nat_list_cmp_total objects own value name ∙ ap (λ b. cond b (Some value) (finmap.get objects name)) (tied name own)
 

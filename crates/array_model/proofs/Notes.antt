@@ -1,11 +1,12 @@
 -- Of a list of records without some that count for nothing: the newest notes, objects and snapshots are what they were.
-use Rattle.std.proofs.Common.{◌≡◌, ℕ, ◌+◌, ◌<◌, ◌≤◌, Bool, true, false, cond, List, [], ◌∷◌, Result, Option, Some, None, is_some, count_by, Decides, ◌⊎◌, inl, inr, refl, sym, ap, ◌∙◌, subst, zero, suc, bytes_eq, arith}
+use Rattle.std.proofs.Common.{◌≡◌, ℕ, ◌+◌, ◌<◌, ◌≤◌, Bool, true, false, cond, List, [], ◌∷◌, Option, Some, None, is_some, count_by, Decides, ◌⊎◌, inl, inr, refl, sym, ap, ◌∙◌, subst, bytes_eq, arith}
 use Rattle.std.proofs.lemmas.Bool.{cases_lt}
 use Rattle.std.proofs.lemmas.Slice.Eq.{bytes_eq-Decides}
 use Rattle.array_model.specs.Record.{Record, Head, Ready, Part, Put, Delete, Cut, Digest, Snapshot, note_stamp}
-use Rattle.array_model.specs.Map.{newest, said_by, value_of, part_of, parts_from, joined, object_by}
+use Rattle.array_model.specs.Map.{newest, said_by, value_of, part_of}
 use Rattle.array_model.specs.Need.{IsWanted}
 use Rattle.array_model.proofs.Records.{Among, NewestIs, no_note, newest_is, the_newest, newest_is_note, no_newest}
+use Rattle.array_model.proofs.Objects.{said_same}
 use Rattle.array_model.proofs.Thinned.{counted}
 
 abbrev pub is_note : List ℕ → Record → Bool
@@ -110,26 +111,11 @@ module _ (uploads : List ℕ) (old new : List Record) (keeps : KeepsWanted uploa
             was ∙ ap Some (only_one (is_note name) old other note lone.1 told'.0 (keeps.no_more note told.0) (noted name other told'.1.0 told'.1.1) (noted name note told.1.0 told.1.1))
       ]
 
-  parts_same : (upload : ℕ) → ((part : ℕ) → part_of upload part new ≡ part_of upload part old) → (part more : ℕ) → parts_from new upload part more ≡ parts_from old upload part more
-  parts_same upload same part zero = refl
-  parts_same upload same part (suc more) =
-      ap (λ o. joined o part (parts_from new upload (part + 1) more)) (same part)
-      ∙ ap (joined (part_of upload part old) part) (parts_same upload same (part + 1) more)
-
-  -- What the newest note says is what it said.
-  said_same : (note : Record) → newest name old ≡ Some note → said_by new (Some note) ≡ said_by old (Some note)
-  said_same Head was = refl
-  said_same Ready was = refl
-  said_same (Part upload part payload) was = refl
-  said_same (Delete own stamp) was = refl
-  said_same (Cut target kept) was = refl
-  said_same (Digest part parts payload) was = refl
-  said_same (Snapshot stamp part parts bytes payload) was = refl
-  said_same (Put own stamp upload parts bytes) was =
+  -- The newest put note of the name bears the name.
+  own_newest : (own : List ℕ) (stamp upload parts bytes : ℕ) → newest name old ≡ Some (Put own stamp upload parts bytes) → newest own old ≡ Some (Put own stamp upload parts bytes)
+  own_newest own stamp upload parts bytes was =
       let told = newest_is_note name old (Put own stamp upload parts bytes) was in
-      let mine = put_named name own stamp upload parts bytes told.1.0 told.1.1 in
-      let own_newest : newest own old ≡ Some (Put own stamp upload parts bytes) = ap (λ n. newest n old) mine ∙ was in
-      ap (λ (r : Result (List ℕ) ℕ). Some (object_by upload parts bytes r)) (parts_same upload (λ part. keeps.parts upload part (λ payload. inr (own, stamp, parts, bytes, own_newest))) 0 parts)
+      ap (λ n. newest n old) (put_named name own stamp upload parts bytes told.1.0 told.1.1) ∙ was
 
   lone_says_nothing : (note : Record) → IsLoneDelete note → said_by old (Some note) ≡ None
   lone_says_nothing note lone = ap (λ n. said_by old (Some n)) lone.0.2
@@ -141,7 +127,7 @@ module _ (uploads : List ℕ) (old new : List Record) (keeps : KeepsWanted uploa
       after : (last : Option Record) → newest name new ≡ last → (first : Option Record) → newest name old ≡ first → value_of new name ≡ value_of old name
       after (Some note) is first first_is =
           let was = newest_was note is in
-          ap (said_by new) is ∙ said_same note was ∙ sym (ap (said_by old) was)
+          ap (said_by new) is ∙ said_same old new note (λ own stamp upload parts bytes is' part. keeps.parts upload part (λ payload. inr (own, stamp, parts, bytes, own_newest own stamp upload parts bytes (was ∙ ap Some is')))) ∙ sym (ap (said_by old) was)
       after None is None none = ap (said_by new) is ∙ sym (ap (said_by old) none)
       after None is (Some other) was = elim (newest_note other was) [
         | inl stays ↦ absurd (cc)

@@ -240,3 +240,16 @@ module _ (name : List ℕ) (item : Record) (items : List Record) (note : Record)
 pub newest_is_greatest : NewestIsGreatest
 newest_is_greatest name [] note is = absurd (cc)
 newest_is_greatest name (item ∷ items) note is = greatest_step name item items note (newest_is_greatest name items note) (note_stamp name item) refl (newest name items) refl (the_newest name items) is
+
+-- No note of the name has a greater stamp than the newest.
+bound_told : (name : List ℕ) (items : List Record) (note : Record) (stamp : ℕ) → note_stamp name note ≡ Some stamp → (found : Option Record) → found ≡ Some note → NewestIs name items found → (item : Record) (its : ℕ) → Among item items → note_stamp name item ≡ Some its → its ≤ stamp
+bound_told name items note stamp at None is told item its found has = absurd (cc)
+bound_told name items note stamp at (Some other) is (newest_is kept own there at' bound) item its found has =
+    let same : kept ≡ note = cc in
+    let own_at = ap (note_stamp name) same in
+    let equal : own ≡ stamp = cc in
+    let b = bound item its found has in
+    omega arith
+
+pub newest_bound : (name : List ℕ) (items : List Record) (note : Record) (stamp : ℕ) → newest name items ≡ Some note → note_stamp name note ≡ Some stamp → (item : Record) (its : ℕ) → Among item items → note_stamp name item ≡ Some its → its ≤ stamp
+newest_bound name items note stamp is at = bound_told name items note stamp at (newest name items) is (the_newest name items)

@@ -7,6 +7,10 @@ use Rattle.array_model.specs.Record.{Record, is_ready, kept_of}
 use Rattle.array_model.specs.Sets.{ReadSet, ValidSet, Placed, stands, cut_to, lesser, least_kept, kept_by, placed_from, placed, valid, records_of}
 use Rattle.array_model.specs.Map.{items_of}
 
+pub lesser_none : (a : Option ℕ) → lesser a None ≡ a
+lesser_none None = refl
+lesser_none (Some n) = refl
+
 lesser_regroup : (a b c : Option ℕ) → lesser (lesser a b) c ≡ lesser a (lesser b c)
 lesser_regroup None b c = refl
 lesser_regroup (Some x) None c = refl

@@ -137,8 +137,7 @@ module _ (k : ℕ) (uploads : List ℕ) (old new : List ReadSet) (some : 0 < k) 
   says_the_same =
       let same : (name : List ℕ) → value_in k new name ≡ value_in k old name = (λ name. value_stays uploads (items_of (records_of k old)) (items_of (records_of k new)) keeps name) in
       record {
-        map = same_values_same_map k old new same;
-        value = same;
+        reads = record { map = same_values_same_map k old new same; value = same };
         needed = needed_was;
         notes = λ name stamp one other found also is as_well. keeps.one name stamp one other (keeps.no_more one (among_from_contains _ one found)) (keeps.no_more other (among_from_contains _ other also)) is as_well;
       }
@@ -163,8 +162,7 @@ losses_follow k uploads old mid new some notes one other =
     let first = unneeded_sets_may_go k uploads old mid some notes one in
     let then = unneeded_sets_may_go k uploads mid new some first.notes other in
     record {
-      map = then.map ∙ first.map;
-      value = λ name. then.value name ∙ first.value name;
+      reads = record { map = then.reads.map ∙ first.reads.map; value = λ name. then.reads.value name ∙ first.reads.value name };
       needed = λ it needed. first.needed it (then.needed it needed);
       notes = then.notes;
     }

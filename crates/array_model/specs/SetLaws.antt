@@ -1,12 +1,12 @@
 -- Laws of lists of sets: what may be lost or added while every name stands for what it stood for. They hold of any lists,
 -- whether a store reaches them or not, and for any tables of uploads and readers.
-use Rattle.std.specs.Prelude.{◌≡◌, ℕ, ◌<◌, ◌≤◌, List, ◌∷◌, ◌++◌, Some, None, Contains}
+use Rattle.std.specs.Prelude.{◌≡◌, ℕ, ◌<◌, ◌≤◌, true, false, List, [], ◌∷◌, ◌++◌, Some, None, Contains}
 use Rattle.std.specs.List.{AllZip, AllByRecursion}
 use Rattle.std.specs.FinMap as finmap
-use Rattle.array_model.specs.Record.{Record, note_stamp}
-use Rattle.array_model.specs.Sets.{ReadSet, Placed, records_of}
-use Rattle.array_model.specs.Map.{items_of, newest, value_in, map_of}
-use Rattle.array_model.specs.Need.{IsNeeded, IsNeededSet}
+use Rattle.array_model.specs.Record.{Record, Part, Put, Delete, Cut, note_stamp}
+use Rattle.array_model.specs.Sets.{ReadSet, Placed, AreRising, stands, records_of}
+use Rattle.array_model.specs.Map.{items_of, newest, object_of, value_in, map_of}
+use Rattle.array_model.specs.Need.{IsNeeded, IsNeededSet, IsUploadOfNewest}
 
 -- The map has for each name what is read of it,
 abbrev pub MapHasWhatIsRead : Type 0
@@ -55,11 +55,14 @@ pub record LosesUnneeded (k : ℕ) (uploads : List ℕ) (old new : List ReadSet)
   pub fewer : AllZip LosesCarriers old new
   pub enough : AreEnough k uploads old new
 
--- What is read says what it said: each name stands for what it stood for, what is needed was needed and stood at the same
--- place, and the premise on notes still holds.
-pub record SaysTheSame (k : ℕ) (uploads : List ℕ) (old new : List ReadSet) : Type 0 where
+-- Each name stands for what it stood for.
+pub record ReadsTheSame (k : ℕ) (old new : List ReadSet) : Type 0 where
   pub map : map_of k new ≡ map_of k old
   pub value : (name : List ℕ) → value_in k new name ≡ value_in k old name
+
+-- So it does, what is needed was needed and stood at the same place, and the premise on notes still holds.
+pub record SaysTheSame (k : ℕ) (uploads : List ℕ) (old new : List ReadSet) : Type 0 where
+  pub reads : ReadsTheSame k old new
   pub needed : (it : Placed) → IsNeeded k uploads new it → IsNeeded k uploads old it
   pub notes : NotesAreOne k new
 
@@ -74,3 +77,49 @@ LossesFollow = (k : ℕ) (uploads : List ℕ) (old mid new : List ReadSet) → 0
 -- and they do where those that are needed at first keep k to the end.
 abbrev pub FirstNeedIsEnough : Type 0
 FirstNeedIsEnough = (k : ℕ) (uploads : List ℕ) (old mid new : List ReadSet) → 0 < k → NotesAreOne k old → AllZip LosesCarriers old mid → AllZip LosesCarriers mid new → AreEnough k uploads old new → LosesUnneeded k uploads old mid × LosesUnneeded k uploads mid new
+
+-- More records behind those of the highest set that stands.
+pub record Appends (k : ℕ) (more : List Record) (old new : List ReadSet) : Type 0 where
+  pub below : List ReadSet
+  pub top : ReadSet
+  pub above : List ReadSet
+  pub was : old ≡ below ++ top ∷ above
+  pub stood : stands k top ≡ true
+  pub highest : AllByRecursion (λ set. stands k set ≡ false) above
+  pub is : new ≡ below ++ record top { records = top.records ++ more } ∷ above
+
+-- a record that says nothing yet: it is no note, no cut, and no part of the object of a newest note among these
+abbrev pub IsWithoutNote : List Record → Record → Type 0
+IsWithoutNote items (Part upload part payload) = IsUploadOfNewest items upload → ⊥
+IsWithoutNote items (Put name stamp upload parts bytes) = ⊥
+IsWithoutNote items (Delete name stamp) = ⊥
+IsWithoutNote items (Cut target kept) = ⊥
+IsWithoutNote items item = Unit {0}
+
+-- Records without their note say nothing: parts of an upload that no newest note names, digests and snapshots.
+abbrev pub RecordsWithoutNote : Type 0
+RecordsWithoutNote = (k : ℕ) (more : List Record) (old new : List ReadSet) → Appends k more old new → AllByRecursion (IsWithoutNote (items_of (records_of k old))) more → ReadsTheSame k old new
+
+-- no note of the name has a greater stamp
+abbrev pub NoneAbove : List Record → List ℕ → ℕ → Type 0
+NoneAbove items name stamp = (item : Record) (its : ℕ) → Contains items item → note_stamp name item ≡ Some its → its ≤ stamp
+
+-- A put note whose stamp is the greatest gives its name the object of its upload,
+abbrev pub PutNoteIsLast : Type 0
+PutNoteIsLast = (k : ℕ) (name : List ℕ) (stamp upload parts bytes : ℕ) (old new : List ReadSet) → Appends k (Put name stamp upload parts bytes ∷ []) old new → NoneAbove (items_of (records_of k old)) name stamp → map_of k new ≡ finmap.insert (map_of k old) name (object_of (items_of (records_of k old)) upload parts bytes)
+
+-- and a delete note takes its name out.
+abbrev pub DeleteNoteIsLast : Type 0
+DeleteNoteIsLast = (k : ℕ) (name : List ℕ) (stamp : ℕ) (old new : List ReadSet) → Appends k (Delete name stamp ∷ []) old new → NoneAbove (items_of (records_of k old)) name stamp → map_of k new ≡ finmap.remove (map_of k old) name
+
+-- Each valid cut is of a lower set than the one that it stands in.
+abbrev pub CutsAreOfLower : ℕ → List ReadSet → Type 0
+CutsAreOfLower k sets = (it : Placed) (target kept : ℕ) → Contains (records_of k sets) it → it.item ≡ Cut target kept → target < it.set
+
+-- a copy of a needed record
+abbrev pub IsCopyOfNeeded : ℕ → List ℕ → List ReadSet → Record → Type 0
+IsCopyOfNeeded k uploads sets item = (it : Placed) × IsNeeded k uploads sets it × (it.item ≡ item)
+
+-- Copies of needed records change nothing.
+abbrev pub CopiesChangeNothing : Type 0
+CopiesChangeNothing = (k : ℕ) (uploads : List ℕ) (more : List Record) (old new : List ReadSet) → AreRising old → CutsAreOfLower k old → Appends k more old new → AllByRecursion (IsCopyOfNeeded k uploads old) more → ReadsTheSame k old new

@@ -1,6 +1,6 @@
 //! Laws of lists of sets. These functions do nothing: their contracts are the theorems.
 
-ghost use Rattle.array_model.specs.SetLaws.{MapHasWhatIsRead, SameValuesSameMap, NewestIsGreatest, NoNewestNoNote, UnneededSetsMayGo, LossesFollow, FirstNeedIsEnough};
+ghost use Rattle.array_model.specs.SetLaws.{MapHasWhatIsRead, SameValuesSameMap, NewestIsGreatest, NoNewestNoNote, UnneededSetsMayGo, LossesFollow, FirstNeedIsEnough, RecordsWithoutNote, PutNoteIsLast, DeleteNoteIsLast, CopiesChangeNothing};
 
 /// The map has for each name what is read of it, so where the same is read of each name the maps are equal.
 pub fn map_is_what_is_read()
@@ -21,4 +21,22 @@ pub fn unneeded_sets_may_go()
     ensures once { UnneededSetsMayGo }
     ensures follow { LossesFollow }
     ensures first { FirstNeedIsEnough }
+{}
+
+/// Records behind those of the highest set that stands say nothing before their note: parts of an upload that no newest
+/// note names, digests and parts of snapshots.
+pub fn records_without_note()
+    ensures { RecordsWithoutNote }
+{}
+
+/// A note behind those of the highest set that stands, whose stamp is the greatest of its name's, decides for its name
+/// alone: a put note gives it the object of its upload, a delete note takes it out.
+pub fn note_is_last()
+    ensures put { PutNoteIsLast }
+    ensures delete { DeleteNoteIsLast }
+{}
+
+/// Copies of needed records behind those of the highest set that stands change nothing.
+pub fn copies_change_nothing()
+    ensures { CopiesChangeNothing }
 {}

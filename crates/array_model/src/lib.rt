@@ -4,4 +4,7 @@
 
 mod laws;
 
-pub use laws::{map_is_what_is_read, newest_note_is_greatest, unneeded_sets_may_go};
+pub use laws::{
+    copies_change_nothing, map_is_what_is_read, newest_note_is_greatest, note_is_last,
+    records_without_note, unneeded_sets_may_go,
+};
