@@ -1,12 +1,12 @@
 -- Copies of needed records change nothing.
-use Rattle.std.proofs.Common.{◌≡◌, ℕ, ◌<◌, min, Bool, true, false, List, [], ◌∷◌, ◌++◌, Option, Some, None, ◌⊎◌, inl, inr, refl, sym, ap, ◌∙◌, subst, arith}
+use Rattle.std.proofs.Common.{◌≡◌, ℕ, ◌<◌, min, Bool, true, false, List, [], ◌∷◌, ◌++◌, Option, Some, None, inl, inr, refl, sym, ap, ◌∙◌, subst, arith}
 use Rattle.std.specs.List.{AllByRecursion}
 use Rattle.array_model.specs.Record.{Record, Head, Ready, Part, Put, Delete, Cut, Digest, Snapshot, note_stamp}
 use Rattle.array_model.specs.Sets.{ReadSet, Placed, RiseAbove, stands, cut_to, kept_by, lesser, least_kept, valid, records_of}
 use Rattle.array_model.specs.Map.{items_of, newest, part_of, or_else, value_of, value_in}
 use Rattle.array_model.specs.Need.{IsNeeded, IsWanted}
 use Rattle.array_model.specs.SetLaws.{CutsAreOfLower, IsCopyOfNeeded, CopiesChangeNothing}
-use Rattle.array_model.proofs.Records.{Among, contains_from_among, least_at_most, least_is_there, newest_is_note, newest_bound}
+use Rattle.array_model.proofs.Records.{Among, among_joined, among_rest, contains_from_among, least_at_most, least_is_there, newest_is_note, newest_bound}
 use Rattle.array_model.proofs.Objects.{SameParts, part_has_first, first_is_there}
 use Rattle.array_model.proofs.MapLaws.{same_values_same_map}
 use Rattle.array_model.proofs.Notes.{put_named, delete_named}
@@ -14,23 +14,6 @@ use Rattle.array_model.proofs.Thinned.{among_items}
 use Rattle.array_model.proofs.Sets.{lesser_none, kept_least, placed_in, cut_records, read_standing, read_fallen}
 use Rattle.array_model.proofs.Appended.{CutNothingOff, read_more}
 use Rattle.array_model.proofs.Behind.{all_among, newest_behind, newest_before, part_joined, value_behind, or_else_none}
-
-pub among_joined : {X : Type 0} (first rest : List X) (x : X) → Among x (first ++ rest) → Among x first ⊎ Among x rest
-among_joined [] rest x found = inr found
-among_joined (y ∷ first) rest x (inl is) = inl (inl is)
-among_joined (y ∷ first) rest x (inr later) = elim (among_joined first rest x later) [
-  | inl front ↦ inl (inr front)
-  | inr back ↦ inr back
-]
-
-pub among_first : {X : Type 0} (first rest : List X) (x : X) → Among x first → Among x (first ++ rest)
-among_first [] rest x found = absurd found
-among_first (y ∷ first) rest x (inl is) = inl is
-among_first (y ∷ first) rest x (inr later) = inr (among_first first rest x later)
-
-pub among_rest : {X : Type 0} (first rest : List X) (x : X) → Among x rest → Among x (first ++ rest)
-among_rest [] rest x found = found
-among_rest (y ∷ first) rest x found = inr (among_rest first rest x found)
 
 -- A needed record is a valid one.
 pub needed_among : (k : ℕ) (uploads : List ℕ) (sets : List ReadSet) (it : Placed) → IsNeeded k uploads sets it → Among it (records_of k sets)

@@ -9,3 +9,6 @@ pub mod UnneededSets
 pub mod Appended
 pub mod Behind
 pub mod Copies
+pub mod Dropped
+pub mod CutOff
+pub mod DroppedSet

@@ -28,7 +28,7 @@ said_same items items' (Put own stamp upload parts bytes) same =
     ap (λ (r : Result (List ℕ) ℕ). Some (object_by upload parts bytes r)) (parts_same items items' upload (same own stamp upload parts bytes refl) 0 parts)
 
 -- the payload of a part
-payload_here : (upload part : ℕ) (payload : List ℕ) → payload_of upload part (Part upload part payload) ≡ Some payload
+pub payload_here : (upload part : ℕ) (payload : List ℕ) → payload_of upload part (Part upload part payload) ≡ Some payload
 payload_here upload part payload = ap (λ b. cond b (Some payload) None) (and_from _ _ (eq-eqb upload upload refl) (eq-eqb part part refl))
 
 -- A part that is there has a first payload,

@@ -1,5 +1,5 @@
 -- Records among others: which cuts keep the least, which note is the newest, which part comes first.
-use Rattle.std.proofs.Common.{◌≡◌, slice_index_or, ℕ, ◌<◌, ◌≤◌, min, true, false, ◌==◌, List, [], ◌∷◌, length, Option, Some, None, Contains, ◌⊎◌, inl, inr, refl, sym, ap, ◌∙◌, subst, zero, suc, ◌&&◌, nat_lt, ltb-true, ltb-false, arith, cond}
+use Rattle.std.proofs.Common.{◌≡◌, slice_index_or, ℕ, ◌<◌, ◌≤◌, min, true, false, ◌==◌, List, [], ◌∷◌, ◌++◌, length, Option, Some, None, Contains, ◌⊎◌, inl, inr, refl, sym, ap, ◌∙◌, subst, zero, suc, ◌&&◌, nat_lt, ltb-true, ltb-false, arith, cond}
 use Rattle.std.proofs.Math.Decide.{ℕ_discrete}
 use Rattle.std.proofs.lemmas.Bool.{eqb-true, cases_lt, and_parts, eq-eqb}
 use Rattle.array_model.specs.Record.{Record, Record-discrete, Head, Ready, Part, Put, Delete, Cut, Digest, Snapshot, note_stamp, payload_of, kept_of}
@@ -40,6 +40,23 @@ pub contains_from_among : {X : Type 0} (xs : List X) (x : X) → Among x xs → 
 contains_from_among [] x found = absurd found
 contains_from_among (y ∷ ys) x (inl is) = (zero, omega arith, is)
 contains_from_among (y ∷ ys) x (inr later) = let there = contains_from_among ys x later in (suc there.0, omega (arith, there.1), there.2)
+
+pub among_joined : {X : Type 0} (first rest : List X) (x : X) → Among x (first ++ rest) → Among x first ⊎ Among x rest
+among_joined [] rest x found = inr found
+among_joined (y ∷ first) rest x (inl is) = inl (inl is)
+among_joined (y ∷ first) rest x (inr later) = elim (among_joined first rest x later) [
+  | inl front ↦ inl (inr front)
+  | inr back ↦ inr back
+]
+
+pub among_first : {X : Type 0} (first rest : List X) (x : X) → Among x first → Among x (first ++ rest)
+among_first [] rest x found = absurd found
+among_first (y ∷ first) rest x (inl is) = inl is
+among_first (y ∷ first) rest x (inr later) = inr (among_first first rest x later)
+
+pub among_rest : {X : Type 0} (first rest : List X) (x : X) → Among x rest → Among x (first ++ rest)
+among_rest [] rest x found = found
+among_rest (y ∷ first) rest x found = inr (among_rest first rest x found)
 
 -- A cut that keeps so many of a target
 pub kept_is_cut : (target kept : ℕ) (item : Record) → kept_of target item ≡ Some kept → item ≡ Cut target kept

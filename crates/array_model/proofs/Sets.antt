@@ -11,7 +11,7 @@ pub lesser_none : (a : Option ℕ) → lesser a None ≡ a
 lesser_none None = refl
 lesser_none (Some n) = refl
 
-lesser_regroup : (a b c : Option ℕ) → lesser (lesser a b) c ≡ lesser a (lesser b c)
+pub lesser_regroup : (a b c : Option ℕ) → lesser (lesser a b) c ≡ lesser a (lesser b c)
 lesser_regroup None b c = refl
 lesser_regroup (Some x) None c = refl
 lesser_regroup (Some x) (Some y) None = refl

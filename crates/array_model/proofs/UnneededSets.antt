@@ -9,37 +9,46 @@
 -- Of each record that was wanted the first copy was needed, so it is still there. So the newest note of a name stays the
 -- newest: another could only have the same stamp, and then it is an equal note. The first copies of its parts stay the
 -- first. And a snapshot that is complete now was complete, while the newest that was complete still is.
-use Rattle.std.proofs.Common.{◌≡◌, ℕ, ◌<◌, ◌≤◌, Bool, true, false, List, [], ◌∷◌, ◌++◌, Option, inl, inr, refl, sym, ap, ◌∙◌, subst, subst₂, true≢false, append_assoc, append-nil, arith}
+use Rattle.std.proofs.Common.{◌≡◌, ℕ, ◌<◌, ◌≤◌, Bool, true, false, List, [], ◌∷◌, ◌++◌, Option, inl, inr, ⊎_elim, refl, sym, ap, ◌∙◌, subst, subst₂, true≢false, append_assoc, arith}
 use Rattle.std.specs.List.{AllZip, AllByRecursion}
 use Rattle.array_model.specs.Record.{Record}
-use Rattle.array_model.specs.Sets.{ReadSet, Placed, stands, cut_to, kept_by, placed_from, valid, records_of, HasCarrier}
+use Rattle.array_model.specs.Sets.{ReadSet, Placed, stands, cut_to, kept_by, placed_from, valid, records_of, least_kept, HasCarrier}
 use Rattle.array_model.specs.Map.{items_of, value_in}
 use Rattle.array_model.specs.Need.{IsNeeded, IsNeededSet}
 use Rattle.array_model.specs.SetLaws.{LosesCarriers, LosesUnneeded, NotesAreOne, SaysTheSame, AreEnough, UnneededSetsMayGo, LossesFollow, FirstNeedIsEnough}
-use Rattle.array_model.proofs.Sets.{kept_least, cut_records, read_standing, read_fallen, placed_in, standing_carriers, stands_with}
-use Rattle.array_model.proofs.Thinned.{Thin, Counts, nothing, stays, goes, least_stays, no_more, wanted_stays, part_stays, fewer_thin, StoodAt, stood, among_items, item_among}
-use Rattle.array_model.proofs.Records.{contains_from_among, among_from_contains, least_at_most, least_is_there}
+use Rattle.array_model.proofs.Sets.{lesser_none, kept_least, cut_records, read_standing, read_fallen, placed_in, standing_carriers, stands_with}
+use Rattle.array_model.proofs.Thinned.{Thinned, Counts, StandsIn, nothing, all_stay, all_go, least_stays, no_more, wanted_stays, part_stays, fewer_thin, StoodAt, stood, among_items, item_among}
+use Rattle.array_model.proofs.Records.{Among, contains_from_among, among_from_contains, least_at_most, least_is_there}
 use Rattle.array_model.proofs.Notes.{KeepsWanted, value_stays}
 use Rattle.array_model.proofs.Snapshots.{wanted_was}
 use Rattle.array_model.proofs.MapLaws.{same_values_same_map}
 
-module _ (k : ℕ) (uploads : List ℕ) (all : List ReadSet) where
-  -- These stay,
-  all_stay : (mine before old new : List Placed) → Thin k uploads all (before ++ mine) old new → Thin k uploads all before (mine ++ old) (mine ++ new)
-  all_stay [] before old new rest = subst (λ b. Thin k uploads all b old new) (append-nil before) rest
-  all_stay (it ∷ mine) before old new rest = stays it (all_stay mine (before ++ it ∷ []) old new (subst (λ b. Thin k uploads all b old new) (sym (append_assoc before (it ∷ []) mine)) rest))
+-- what goes isn't needed
+abbrev pub IsUnneeded : ℕ → List ℕ → List ReadSet → List Placed → Placed → List Placed → Type 0
+IsUnneeded k uploads sets before it after = Counts k uploads sets before it after → ⊥
 
-  -- or these go, where none of them counts.
-  all_go : (mine before old new : List Placed) (set : ℕ) → AllByRecursion (λ (it : Placed). it.set ≡ set) mine → (IsNeededSet k uploads all set → ⊥) → records_of k all ≡ before ++ (mine ++ old) → Thin k uploads all (before ++ mine) old new → Thin k uploads all before (mine ++ old) new
-  all_go [] before old new set own unneeded is rest = subst (λ b. Thin k uploads all b old new) (append-nil before) rest
-  all_go (it ∷ mine) before old new set own unneeded is rest =
-      goes it (λ counts. unneeded (it, record { before = before; after = mine ++ old; valid = is; why = counts }, own.0))
-      (all_go mine (before ++ it ∷ []) old new set own.1 unneeded (is ∙ sym (append_assoc before (it ∷ []) (mine ++ old))) (subst (λ b. Thin k uploads all b old new) (sym (append_assoc before (it ∷ []) mine)) rest))
+abbrev pub Thin : ℕ → List ℕ → List ReadSet → List Placed → List Placed → List Placed → Type 0
+Thin k uploads sets = Thinned (IsUnneeded k uploads sets)
+
+-- So nothing has to stand in for it.
+nothing_stands_in : (k : ℕ) (uploads : List ℕ) (sets : List ReadSet) → StandsIn k uploads sets [] (IsUnneeded k uploads sets) (λ item. ⊥)
+nothing_stands_in k uploads sets = record {
+  wanted = λ before it after unneeded wanted none. unneeded (inl (wanted, none));
+  cut = λ before it after unneeded last. absurd (unneeded (inr last));
+}
+
+module _ (k : ℕ) (uploads : List ℕ) (all : List ReadSet) where
+  -- The least that is kept of a set with a carrier stays.
+  least_the_same : (target : ℕ) → HasCarrier all target → {before old new : List Placed} → Thin k uploads all before old new → least_kept target (items_of new) ≡ least_kept target (items_of old)
+  least_the_same target there {old = old} {new = new} thin =
+      sym (lesser_none (least_kept target (items_of new)))
+      ∙ least_stays k uploads all [] (IsUnneeded k uploads all) (λ item. ⊥) (nothing_stands_in k uploads all) target there thin
+      ∙ lesser_none (least_kept target (items_of old))
 
   -- A set that stands before and after is cut to the same number, since the sets above keep the least of it.
   same_cut : (set set' : ReadSet) (old new : List ReadSet) (before : List Placed) → LosesCarriers set set' → HasCarrier all set.id → Thin k uploads all before (records_of k old) (records_of k new) → cut_records k set' new ≡ cut_records k set old
   same_cut set set' old new before fewer there rest =
-      let kept : kept_by set.id (valid k new) ≡ kept_by set.id (valid k old) = kept_least set.id (valid k new) ∙ least_stays k uploads all set.id there rest ∙ sym (kept_least set.id (valid k old)) in
+      let kept : kept_by set.id (valid k new) ≡ kept_by set.id (valid k old) = kept_least set.id (valid k new) ∙ least_the_same set.id there rest ∙ sym (kept_least set.id (valid k old)) in
       ap (λ (id : ℕ). placed_from id 0 (cut_to (kept_by id (valid k new)) set'.records)) fewer.id
       ∙ ap (λ (items : List Record). placed_from set.id 0 (cut_to (kept_by set.id (valid k new)) items)) fewer.records
       ∙ ap (λ (n : Option ℕ). placed_from set.id 0 (cut_to n set.records)) kept
@@ -62,7 +71,8 @@ module _ (k : ℕ) (uploads : List ℕ) (all : List ReadSet) where
       let still = stands_with k set set' fewer.records was (enough (subst (λ id. IsNeededSet k uploads all id) (sym fewer.id) needed)) in
       true≢false (sym still ∙ falls)) in
       subst₂ (λ o n. Thin k uploads all before o n) (sym was_read) (sym (read_fallen k set' new falls))
-      (all_go mine before (records_of k old) (records_of k new) set.id (placed_in set.id 0 (cut_to (kept_by set.id (valid k old)) set.records)) unneeded is' (again (before ++ mine) (is' ∙ sym (append_assoc before mine (records_of k old)))))
+      (all_go (records_of k all) mine before (records_of k old) (records_of k new) set.id (placed_in set.id 0 (cut_to (kept_by set.id (valid k old)) set.records))
+      (λ ahead it behind at own counts. unneeded (it, record { before = ahead; after = behind ++ records_of k old; valid = at; why = counts }, own)) is' (again (before ++ mine) (is' ∙ sym (append_assoc before mine (records_of k old)))))
   one_more some set set' old new before fewer enough there is again false true fell still =
       let many = standing_carriers k set' still in
       let few = fewer.carriers in
@@ -92,12 +102,15 @@ module _ (k : ℕ) (uploads : List ℕ) (old new : List ReadSet) (some : 0 < k) 
   whole : Thin k uploads old [] (records_of k old) (records_of k new)
   whole = thin k uploads old some old new [] refl (λ id has. has) loses.fewer loses.enough
 
+  stand_in : StandsIn k uploads old [] (IsUnneeded k uploads old) (λ item. ⊥)
+  stand_in = nothing_stands_in k uploads old
+
   keeps : KeepsWanted uploads (items_of (records_of k old)) (items_of (records_of k new))
   keeps = record {
-    no_more = λ item found. no_more k uploads old item whole found;
-    fewer = λ test. fewer_thin k uploads old test whole;
-    wanted = λ item wanted found. wanted_stays k uploads old item wanted (λ copy among is. omega arith) whole found;
-    parts = λ upload part wanted. part_stays k uploads old upload part wanted (λ other among. absurd (omega arith)) whole;
+    no_more = λ item found. no_more item whole found;
+    fewer = λ test. fewer_thin test whole;
+    wanted = λ item wanted found. ⊎_elim (λ still. still) (λ other. absurd other) (wanted_stays k uploads old [] (IsUnneeded k uploads old) (λ item. ⊥) stand_in item wanted (λ copy among is. omega arith) whole found);
+    parts = λ upload part wanted. part_stays k uploads old [] (IsUnneeded k uploads old) (λ item. ⊥) stand_in upload part wanted (λ payload other. other) (λ other among. absurd (omega arith)) whole;
     one = λ name stamp one other found also is as_well. notes name stamp one other (contains_from_among _ _ found) (contains_from_among _ _ also) is as_well;
   }
 
@@ -106,8 +119,8 @@ module _ (k : ℕ) (uploads : List ℕ) (old new : List ReadSet) (some : 0 < k) 
   needed_was : (it : Placed) → IsNeeded k uploads new it → IsNeeded k uploads old it
   needed_was it needed = record { before = at.earlier; after = at.later; valid = at.place; why = why needed.why }
     where
-      at : StoodAt k uploads old [] (records_of k old) it needed.before needed.after
-      at = stood k uploads old it needed.before needed.after whole needed.valid
+      at : StoodAt k uploads old [] (IsUnneeded k uploads old) (λ item. ⊥) stand_in [] (records_of k old) it needed.before needed.after
+      at = stood k uploads old [] (IsUnneeded k uploads old) (λ item. ⊥) stand_in it needed.before needed.after whole needed.valid
 
       why : Counts k uploads new needed.before it needed.after → Counts k uploads old at.earlier it at.later
       why (inl wanted) =
@@ -115,7 +128,7 @@ module _ (k : ℕ) (uploads : List ℕ) (old new : List ReadSet) (some : 0 < k) 
           inl (
             was,
             λ copy found is.
-                let ahead = at.copies it.item was (λ other none same. omega arith) (among_items at.earlier copy it.item (among_from_contains at.earlier copy found) is) in
+                let ahead : Among it.item (items_of needed.before) = ⊎_elim (λ still. still) (λ other. absurd other) (at.copies it.item was (λ other none same. omega arith) (among_items at.earlier copy it.item (among_from_contains at.earlier copy found) is)) in
                 let still = item_among needed.before it.item ahead in
                 wanted.1 still.0 (contains_from_among needed.before still.0 still.1) still.2,
           )
@@ -128,7 +141,7 @@ module _ (k : ℕ) (uploads : List ℕ) (old new : List ReadSet) (some : 0 < k) 
             has,
             λ later found cuts.
                 let least = least_at_most last.0 cuts.0 (items_of at.later) (among_items at.later later _ (among_from_contains at.later later found) cuts.2) in
-                let there = item_among needed.after _ (least_is_there last.0 least.0 (items_of needed.after) (at.least last.0 has ∙ least.1)) in
+                let there = item_among needed.after _ (least_is_there last.0 least.0 (items_of needed.after) (sym (lesser_none (least_kept last.0 (items_of needed.after))) ∙ at.least last.0 has ∙ lesser_none (least_kept last.0 (items_of at.later)) ∙ least.1)) in
                 let low = least.2 in let high = cuts.1 in
                 last.4 there.0 (contains_from_among needed.after there.0 there.1) (least.0, omega arith, there.2),
           )

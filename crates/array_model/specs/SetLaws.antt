@@ -1,10 +1,10 @@
 -- Laws of lists of sets: what may be lost or added while every name stands for what it stood for. They hold of any lists,
 -- whether a store reaches them or not, and for any tables of uploads and readers.
-use Rattle.std.specs.Prelude.{◌≡◌, ℕ, ◌<◌, ◌≤◌, true, false, List, [], ◌∷◌, ◌++◌, Some, None, Contains}
+use Rattle.std.specs.Prelude.{◌≡◌, ◌⊎◌, length, take, ℕ, ◌<◌, ◌≤◌, true, false, List, [], ◌∷◌, ◌++◌, Some, None, Contains}
 use Rattle.std.specs.List.{AllZip, AllByRecursion}
 use Rattle.std.specs.FinMap as finmap
-use Rattle.array_model.specs.Record.{Record, Part, Put, Delete, Cut, note_stamp}
-use Rattle.array_model.specs.Sets.{ReadSet, Placed, AreRising, stands, records_of}
+use Rattle.array_model.specs.Record.{Record, Head, Ready, Part, Put, Delete, Cut, note_stamp}
+use Rattle.array_model.specs.Sets.{ReadSet, ValidSet, Placed, AreRising, stands, valid, records_of}
 use Rattle.array_model.specs.Map.{items_of, newest, object_of, value_in, map_of}
 use Rattle.array_model.specs.Need.{IsNeeded, IsNeededSet, IsUploadOfNewest}
 
@@ -123,3 +123,77 @@ IsCopyOfNeeded k uploads sets item = (it : Placed) × IsNeeded k uploads sets it
 -- Copies of needed records change nothing.
 abbrev pub CopiesChangeNothing : Type 0
 CopiesChangeNothing = (k : ℕ) (uploads : List ℕ) (more : List Record) (old new : List ReadSet) → AreRising old → CutsAreOfLower k old → Appends k more old new → AllByRecursion (IsCopyOfNeeded k uploads old) more → ReadsTheSame k old new
+
+-- Two valid parts of one upload with one number are equal. (Else, once the first is gone, the other takes its place.)
+abbrev pub PartsAreOne : ℕ → List ReadSet → Type 0
+PartsAreOne k sets = (upload part : ℕ) (one other : List ℕ) → Contains (items_of (records_of k sets)) (Part upload part one) → Contains (items_of (records_of k sets)) (Part upload part other) → one ≡ other
+
+-- All that is needed of the set has copies in higher sets.
+abbrev pub HasHigherCopies : ℕ → List ℕ → List ReadSet → ℕ → Type 0
+HasHigherCopies k uploads sets id = (it : Placed) → IsNeeded k uploads sets it → it.set ≡ id → (copy : Placed) × Contains (records_of k sets) copy × (id < copy.set) × (copy.item ≡ it.item)
+
+-- A set is dropped: behind the records of a higher set that is the highest that stands comes its cut to 0.
+pub record DropsSet (k : ℕ) (uploads : List ℕ) (id : ℕ) (old new : List ReadSet) : Type 0 where
+  pub rising : AreRising old
+  pub notes : NotesAreOne k old
+  pub parts : PartsAreOne k old
+  pub copies : HasHigherCopies k uploads old id
+  pub appends : Appends k (Cut id 0 ∷ []) old new
+  pub lower : id < appends.top.id
+
+-- A dropped set is gone: without it each name stands for what it stood for,
+abbrev pub DroppedSetIsGone : Type 0
+DroppedSetIsGone = (k : ℕ) (uploads : List ℕ) (id : ℕ) (old new : List ReadSet) → 0 < k → DropsSet k uploads id old new → ReadsTheSame k old new
+
+-- the same sets, but of one whatever may be read
+abbrev pub AreSameBut : ℕ → List ReadSet → List ReadSet → Type 0
+AreSameBut id old new = AllZip (λ set set'. (set'.id ≡ set.id) × ((set.id ≡ id → ⊥) → set' ≡ set)) old new
+
+-- and whatever is read of it then, as its carriers go one by one, it stays so.
+abbrev pub DroppedSetMayGo : Type 0
+DroppedSetMayGo = (k : ℕ) (uploads : List ℕ) (id : ℕ) (old mid new : List ReadSet) → 0 < k → DropsSet k uploads id old mid → AreSameBut id mid new → ReadsTheSame k old new
+
+-- A new highest set that stands, with its head, cuts and its ready record.
+pub record Opens (k : ℕ) (cuts : List Record) (old new : List ReadSet) : Type 0 where
+  pub top : ReadSet
+  pub is : new ≡ old ++ top ∷ []
+  pub records : top.records ≡ Head ∷ (cuts ++ Ready ∷ [])
+  pub carriers : k ≤ top.carriers
+
+-- of this set no more than so many records are valid
+abbrev pub HasAtMost : ℕ → List ReadSet → ℕ → ℕ → Type 0
+HasAtMost k sets id most = AllByRecursion (λ (set : ValidSet). set.id ≡ id → length set.records ≤ most) (valid k sets)
+
+-- nothing but cuts is needed of this set, and these are among the records
+abbrev pub OnlyCutsNeeded : ℕ → List ℕ → List ReadSet → List Record → ℕ → Type 0
+OnlyCutsNeeded k uploads sets cuts id = (it : Placed) → IsNeeded k uploads sets it → it.set ≡ id → Contains cuts it.item × ((target : ℕ) × (kept : ℕ) × (it.item ≡ Cut target kept))
+
+-- A cut of an opening cuts a set at the length of its valid records or behind it, is a copy of a needed cut, or cuts a set
+-- to 0 of which nothing but cuts is needed, which are copied beside it.
+abbrev pub IsOpeningCut : ℕ → List ℕ → List ReadSet → List Record → Record → Type 0
+IsOpeningCut k uploads sets cuts item = (target : ℕ) × (kept : ℕ) × (item ≡ Cut target kept) × (HasAtMost k sets target kept ⊎ (IsCopyOfNeeded k uploads sets item ⊎ ((kept ≡ 0) × OnlyCutsNeeded k uploads sets cuts target)))
+
+-- A set is opened with such cuts.
+pub record OpensWithCuts (k : ℕ) (uploads : List ℕ) (cuts : List Record) (old new : List ReadSet) : Type 0 where
+  pub rising : AreRising old
+  pub notes : NotesAreOne k old
+  pub lower : CutsAreOfLower k old
+  pub opens : Opens k cuts old new
+  pub each : AllByRecursion (IsOpeningCut k uploads old cuts) cuts
+
+-- An opening changes nothing,
+abbrev pub OpeningChangesNothing : Type 0
+OpeningChangesNothing = (k : ℕ) (uploads : List ℕ) (cuts : List Record) (old new : List ReadSet) → 0 < k → OpensWithCuts k uploads cuts old new → ReadsTheSame k old new
+
+-- a set that is cut here, with the same records as far as it is cut, whichever of its carriers are read and whatever stands
+-- behind; it stands as it stood, or is cut to 0
+pub record IsSameToCut (k : ℕ) (cuts : List Record) (old new : ReadSet) : Type 0 where
+  pub id : new.id ≡ old.id
+  pub kept : ℕ
+  pub cut : Contains cuts (Cut old.id kept)
+  pub first : take kept new.records ≡ take kept old.records
+  pub stand : (stands k new ≡ stands k old) ⊎ (kept ≡ 0)
+
+-- and its cuts fix what was read: it stays so, whatever comes to stand where sets are cut off.
+abbrev pub OpeningFixesWhatWasRead : Type 0
+OpeningFixesWhatWasRead = (k : ℕ) (uploads : List ℕ) (cuts : List Record) (old old' mid new : List ReadSet) → 0 < k → (it : OpensWithCuts k uploads cuts old mid) → AllZip (λ set set'. (set' ≡ set) ⊎ IsSameToCut k cuts set set') old old' → new ≡ old' ++ it.opens.top ∷ [] → ReadsTheSame k old new
