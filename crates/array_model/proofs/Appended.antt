@@ -60,7 +60,7 @@ pub items_extra : (top : ReadSet) (more : List Record) → items_of (extra_of to
 unfolding extra_of
 items_extra top more = items_placed top.id (length top.records) more
 
-read_highest : (k : ℕ) (top : ReadSet) (above : List ReadSet) → stands k top ≡ true → AllByRecursion (λ set. stands k set ≡ false) above → records_of k (top ∷ above) ≡ placed_from top.id 0 top.records
+pub read_highest : (k : ℕ) (top : ReadSet) (above : List ReadSet) → stands k top ≡ true → AllByRecursion (λ set. stands k set ≡ false) above → records_of k (top ∷ above) ≡ placed_from top.id 0 top.records
 read_highest k top above stood highest =
     let none = none_valid k above highest in
     read_standing k top above stood

@@ -30,6 +30,15 @@ among_above k set above it higher found = by_standing (stands k set) refl
     ]
     by_standing false fell = subst (λ r. Among it r) (read_fallen k set above fell) found
 
+-- A cut that keeps as many as one above keeps no fewer.
+pub kept_above : (k target n : ℕ) (above : List ReadSet) (it : Placed) → it.item ≡ Cut target n → Among it (records_of k above) → lesser (kept_by target (valid k above)) (Some n) ≡ kept_by target (valid k above)
+kept_above k target n above it is found =
+    let least = least_at_most target n (items_of (records_of k above)) (among_items (records_of k above) it (Cut target n) found is) in
+    let kept : kept_by target (valid k above) ≡ Some least.0 = kept_least target (valid k above) ∙ least.1 in
+    let low = least.2 in
+    let same : min least.0 n ≡ least.0 = omega arith in
+    ap (λ o. lesser o (Some n)) kept ∙ ap Some same ∙ sym kept
+
 -- Where each cut among more records is of a valid one of a higher set, they cut nothing off.
 pub copied_cuts : (k : ℕ) (more : List Record) (all tail below : List ReadSet) (low : ℕ) → ((target kept : ℕ) → least_kept target more ≡ Some kept → (it : Placed) × Among it (records_of k all) × (it.item ≡ Cut target kept) × (target < it.set)) → RiseAbove low (below ++ tail) → ((it : Placed) → low < it.set → Among it (records_of k all) → Among it (records_of k (below ++ tail))) → CutNothingOff k more tail below
 copied_cuts k more all tail [] low copied rise there = tt
@@ -41,13 +50,7 @@ copied_cuts k more all tail (set ∷ below) low copied rise there =
 
     kept_same : (least : Option ℕ) → least_kept set.id more ≡ least → lesser (kept_by set.id (valid k (below ++ tail))) least ≡ kept_by set.id (valid k (below ++ tail))
     kept_same None none = lesser_none (kept_by set.id (valid k (below ++ tail)))
-    kept_same (Some n) is =
-        let copy = copied set.id n is in
-        let found = least_at_most set.id n (items_of (records_of k (below ++ tail))) (among_items (records_of k (below ++ tail)) copy.0 (Cut set.id n) (above copy.0 copy.3 copy.1) copy.2) in
-        let kept : kept_by set.id (valid k (below ++ tail)) ≡ Some found.0 = kept_least set.id (valid k (below ++ tail)) ∙ found.1 in
-        let low' = found.2 in
-        let least : min found.0 n ≡ found.0 = omega arith in
-        ap (λ o. lesser o (Some n)) kept ∙ ap Some least ∙ sym kept
+    kept_same (Some n) is = let copy = copied set.id n is in kept_above k set.id n (below ++ tail) copy.0 copy.2 (above copy.0 copy.3 copy.1)
 
 -- A note that is wanted is the newest of its name.
 pub wanted_is_newest : (uploads name : List ℕ) (items : List Record) (note : Record) (stamp : ℕ) → note_stamp name note ≡ Some stamp → IsWanted uploads items note → newest name items ≡ Some note

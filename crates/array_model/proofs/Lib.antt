@@ -12,3 +12,4 @@ pub mod Copies
 pub mod Dropped
 pub mod CutOff
 pub mod DroppedSet
+pub mod Opening

@@ -1,6 +1,6 @@
 //! Laws of lists of sets. These functions do nothing: their contracts are the theorems.
 
-ghost use Rattle.array_model.specs.SetLaws.{MapHasWhatIsRead, SameValuesSameMap, NewestIsGreatest, NoNewestNoNote, UnneededSetsMayGo, LossesFollow, FirstNeedIsEnough, RecordsWithoutNote, PutNoteIsLast, DeleteNoteIsLast, CopiesChangeNothing, DroppedSetIsGone, DroppedSetMayGo};
+ghost use Rattle.array_model.specs.SetLaws.{MapHasWhatIsRead, SameValuesSameMap, NewestIsGreatest, NoNewestNoNote, UnneededSetsMayGo, LossesFollow, FirstNeedIsEnough, RecordsWithoutNote, PutNoteIsLast, DeleteNoteIsLast, CopiesChangeNothing, DroppedSetIsGone, DroppedSetMayGo, OpeningChangesNothing, OpeningFixesWhatWasRead};
 
 /// The map has for each name what is read of it, so where the same is read of each name the maps are equal.
 pub fn map_is_what_is_read()
@@ -46,4 +46,12 @@ pub fn copies_change_nothing()
 pub fn dropped_set_is_gone()
     ensures cut { DroppedSetIsGone }
     ensures gone { DroppedSetMayGo }
+{}
+
+/// A new highest set with cuts of some sets leaves the map: each cut is at the length of the set's valid records or behind
+/// it, a copy of a needed one, or to 0 where nothing but cuts is needed of the set, which are copied beside it. And the map
+/// stays while those sets are the same as far as they are cut, whatever stands behind.
+pub fn opening_fixes_what_was_read()
+    ensures opened { OpeningChangesNothing }
+    ensures fixed { OpeningFixesWhatWasRead }
 {}
