@@ -6,5 +6,5 @@ mod laws;
 
 pub use laws::{
     copies_change_nothing, dropped_set_is_gone, map_is_what_is_read, newest_note_is_greatest,
-    note_is_last, records_without_note, unneeded_sets_may_go,
+    note_is_last, opening_fixes_what_was_read, records_without_note, unneeded_sets_may_go,
 };
