@@ -2,7 +2,7 @@
 use Rattle.std.proofs.Common.{◌≡◌, ℕ, ◌<◌, min, Bool, true, false, List, [], ◌∷◌, ◌++◌, Option, Some, None, inl, inr, refl, sym, ap, ◌∙◌, subst, arith}
 use Rattle.std.specs.List.{AllByRecursion}
 use Rattle.array_model.specs.Record.{Record, Head, Ready, Part, Put, Delete, Cut, Digest, Snapshot, note_stamp}
-use Rattle.array_model.specs.Sets.{ReadSet, Placed, RiseAbove, stands, cut_to, kept_by, lesser, least_kept, valid, records_of}
+use Rattle.array_model.specs.Sets.{ReadSet, Placed, placed_from, RiseAbove, stands, cut_to, kept_by, lesser, least_kept, valid, records_of}
 use Rattle.array_model.specs.Map.{items_of, newest, part_of, or_else, value_of, value_in}
 use Rattle.array_model.specs.Need.{IsNeeded, IsWanted}
 use Rattle.array_model.specs.SetLaws.{CutsAreOfLower, IsCopyOfNeeded, CopiesChangeNothing}
@@ -19,15 +19,26 @@ use Rattle.array_model.proofs.Behind.{all_among, newest_behind, newest_before, p
 pub needed_among : (k : ℕ) (uploads : List ℕ) (sets : List ReadSet) (it : Placed) → IsNeeded k uploads sets it → Among it (records_of k sets)
 needed_among k uploads sets it needed = subst (λ r. Among it r) (sym needed.valid) (among_rest needed.before (it ∷ needed.after) it (inl refl))
 
--- A record of a higher set than the lowest of these stands in the sets above it.
-pub among_above : (k : ℕ) (set : ReadSet) (above : List ReadSet) (it : Placed) → set.id < it.set → Among it (records_of k (set ∷ above)) → Among it (records_of k above)
-among_above k set above it higher found = by_standing (stands k set) refl
+-- A record of another set than the lowest of these stands in the sets above it,
+pub among_other : (k : ℕ) (set : ReadSet) (above : List ReadSet) (it : Placed) → (it.set ≡ set.id → ⊥) → Among it (records_of k (set ∷ above)) → Among it (records_of k above)
+among_other k set above it other found = by_standing (stands k set) refl
   where
     by_standing : (b : Bool) → stands k set ≡ b → Among it (records_of k above)
     by_standing true is = elim (among_joined (cut_records k set above) (records_of k above) it (subst (λ r. Among it r) (read_standing k set above is) found)) [
-      | inl own ↦ let same = all_among (λ (r : Placed). r.set ≡ set.id) (cut_records k set above) it (placed_in set.id 0 (cut_to (kept_by set.id (valid k above)) set.records)) own in absurd (omega arith)
+      | inl own ↦ absurd (other (all_among (λ (r : Placed). r.set ≡ set.id) (cut_records k set above) it (placed_in set.id 0 (cut_to (kept_by set.id (valid k above)) set.records)) own))
       | inr later ↦ later
     ]
+    by_standing false fell = subst (λ r. Among it r) (read_fallen k set above fell) found
+
+pub among_above : (k : ℕ) (set : ReadSet) (above : List ReadSet) (it : Placed) → set.id < it.set → Among it (records_of k (set ∷ above)) → Among it (records_of k above)
+among_above k set above it higher found = among_other k set above it (λ e. omega arith) found
+
+-- and so does any where the set is cut to 0.
+pub among_past_dropped : (k : ℕ) (set : ReadSet) (above : List ReadSet) (it : Placed) → kept_by set.id (valid k above) ≡ Some 0 → Among it (records_of k (set ∷ above)) → Among it (records_of k above)
+among_past_dropped k set above it none found = by_standing (stands k set) refl
+  where
+    by_standing : (b : Bool) → stands k set ≡ b → Among it (records_of k above)
+    by_standing true is = subst (λ r. Among it r) (read_standing k set above is ∙ ap (λ o. placed_from set.id 0 (cut_to o set.records) ++ records_of k above) none) found
     by_standing false fell = subst (λ r. Among it r) (read_fallen k set above fell) found
 
 -- A cut that keeps as many as one above keeps no fewer.

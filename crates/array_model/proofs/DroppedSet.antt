@@ -5,7 +5,7 @@ use Rattle.array_model.specs.Record.{Record, Part, Cut}
 use Rattle.array_model.specs.Sets.{ReadSet, Placed, RiseAbove, cut_to, kept_by, lesser, valid, records_of, HasCarrier}
 use Rattle.array_model.specs.Map.{items_of, part_of, value_of, value_in}
 use Rattle.array_model.specs.Need.{IsWanted, IsLastCut}
-use Rattle.array_model.specs.SetLaws.{DropsSet, DroppedSetIsGone, DroppedSetMayGo, AreSameBut, HasHigherCopies, ReadsTheSame}
+use Rattle.array_model.specs.SetLaws.{DropsSet, DroppedSetIsGone, DroppedSetMayGo, DroppedSetIsEmpty, AreSameBut, HasHigherCopies, ReadsTheSame}
 use Rattle.array_model.proofs.Records.{Among, among_from_contains, contains_from_among, among_rest}
 use Rattle.array_model.proofs.Objects.{part_has_first, first_is_there}
 use Rattle.array_model.proofs.MapLaws.{same_values_same_map}
@@ -14,7 +14,7 @@ use Rattle.array_model.proofs.Notes.{KeepsWanted, value_stays}
 use Rattle.array_model.proofs.Sets.{lesser_none, items_joined}
 use Rattle.array_model.proofs.Appended.{extra_of, items_extra, read_top}
 use Rattle.array_model.proofs.Behind.{value_behind, newest_before, same_parts_before}
-use Rattle.array_model.proofs.Copies.{among_above}
+use Rattle.array_model.proofs.Copies.{among_above, among_other, among_past_dropped}
 use Rattle.array_model.proofs.CutOff.{AreSameWhereKept, same_where_kept, kept_below}
 use Rattle.array_model.proofs.Dropped.{CutsOrDrops, ReadThen, read_then}
 
@@ -181,6 +181,25 @@ same_below k id tail it is found high (set ∷ below) (set' ∷ new) same = (
   same_below k id tail it is found high below new same.1,
 )
 
+-- Among records of sets of higher numbers there is none of a lower set,
+none_of_lower : (k id low : ℕ) (sets : List ReadSet) → id ≤ low → RiseAbove low sets → (it : Placed) → it.set ≡ id → Among it (records_of k sets) → ⊥
+none_of_lower k id low [] higher rise it is found = found
+none_of_lower k id low (set ∷ sets) higher rise it is found =
+    let more = rise.0 in
+    none_of_lower k id set.id sets (omega arith) rise.1 it is (among_other k set sets it (λ e. omega arith) found)
+
+-- and with a cut to 0 above there is none of the set.
+none_of_dropped : (k id : ℕ) (tail : List ReadSet) (cut : Placed) → cut.item ≡ Cut id 0 → Among cut (records_of k tail) → (it : Placed) → it.set ≡ id → (Among it (records_of k tail) → ⊥) → (below : List ReadSet) → Among it (records_of k (below ++ tail)) → ⊥
+none_of_dropped k id tail cut cuts there it is none [] found = none found
+none_of_dropped k id tail cut cuts there it is none (set ∷ below) found =
+    none_of_dropped k id tail cut cuts there it is none below (elim (cases_eq set.id id) [
+      | inl mine ↦
+          let kept = kept_below k id 0 below tail cut cuts there in
+          let low = kept.2 in
+          among_past_dropped k set (below ++ tail) it (ap (λ n. kept_by n (valid k (below ++ tail))) mine ∙ kept.1 ∙ ap Some (omega arith)) found
+      | inr other ↦ among_other k set (below ++ tail) it (λ e. other (sym e ∙ is)) found
+    ])
+
 pub dropped_set_is_gone : DroppedSetIsGone
 dropped_set_is_gone k uploads id old new some drops = reads_then k uploads id old new some drops
 
@@ -195,3 +214,11 @@ dropped_set_may_go k uploads id old mid new some drops same =
     let read : records_of k new ≡ records_of k mid = same_where_kept k (drops.appends.below ++ last) new kept ∙ ap (records_of k) (sym drops.appends.is) in
     let value : (name : List ℕ) → value_in k new name ≡ value_in k old name = (λ name. ap (λ r. value_of (items_of r) name) read ∙ first.value name) in
     record { map = same_values_same_map k old new value; value = value }
+
+pub dropped_set_is_empty : DroppedSetIsEmpty
+dropped_set_is_empty k uploads id old new it some drops found is =
+    let last = tail_then k uploads id old new some drops in
+    let cut = cut_there k uploads id old new some drops in
+    let rise = rise_tail drops.appends.below 0 drops.appends.top drops.appends.above (subst (λ sets. RiseAbove 0 sets) drops.appends.was drops.rising) in
+    none_of_dropped k id last cut.0 cut.2 cut.1 it is (λ among. none_of_lower k id id last (le_refl _) (drops.lower, rise) it is among) drops.appends.below
+    (subst (λ sets. Among it (records_of k sets)) drops.appends.is (among_from_contains (records_of k new) it found))

@@ -74,12 +74,16 @@ pub record StandsIn (k : ℕ) (uploads : List ℕ) (sets : List ReadSet) (more :
   pub cut : (before : List Placed) (it : Placed) (after : List Placed) → Gone before it after → (last : IsLastCut sets after it.item) → (least : ℕ) × (least_kept last.0 more ≡ Some least) × (least ≤ last.1)
 
 module _ {Gone : List Placed → Placed → List Placed → Type 0} where
-  -- No record is new.
+  -- What is valid was valid, at its place,
+  pub among_was : (it : Placed) {before old new : List Placed} → Thinned Gone before old new → Among it new → Among it old
+  among_was it nothing found = found
+  among_was it (stays here rest) (inl is) = inl is
+  among_was it (stays here rest) (inr later) = inr (among_was it rest later)
+  among_was it (goes here gone rest) found = inr (among_was it rest found)
+
+  -- so no record is new.
   pub no_more : (item : Record) {before old new : List Placed} → Thinned Gone before old new → Among item (items_of new) → Among item (items_of old)
-  no_more item nothing found = found
-  no_more item (stays it rest) (inl is) = inl is
-  no_more item (stays it rest) (inr later) = inr (no_more item rest later)
-  no_more item (goes it gone rest) found = inr (no_more item rest found)
+  no_more item {old = old} {new = new} thin found = let it = item_among new item found in among_items old it.0 item (among_was it.0 thin it.1) it.2
 
   -- None of a kind become more.
   pub fewer_thin : (test : Record → Bool) {before old new : List Placed} → Thinned Gone before old new → count_by test (items_of new) ≤ count_by test (items_of old)

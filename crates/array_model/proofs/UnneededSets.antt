@@ -17,7 +17,7 @@ use Rattle.array_model.specs.Map.{items_of, value_in}
 use Rattle.array_model.specs.Need.{IsNeeded, IsNeededSet}
 use Rattle.array_model.specs.SetLaws.{LosesCarriers, LosesUnneeded, NotesAreOne, SaysTheSame, AreEnough, UnneededSetsMayGo, LossesFollow, FirstNeedIsEnough}
 use Rattle.array_model.proofs.Sets.{lesser_none, kept_least, cut_records, read_standing, read_fallen, placed_in, standing_carriers, stands_with}
-use Rattle.array_model.proofs.Thinned.{Thinned, Counts, StandsIn, nothing, all_stay, all_go, least_stays, no_more, wanted_stays, part_stays, fewer_thin, StoodAt, stood, among_items, item_among}
+use Rattle.array_model.proofs.Thinned.{Thinned, Counts, StandsIn, nothing, all_stay, all_go, least_stays, no_more, wanted_stays, part_stays, fewer_thin, among_was, StoodAt, stood, among_items, item_among}
 use Rattle.array_model.proofs.Records.{Among, contains_from_among, among_from_contains, least_at_most, least_is_there}
 use Rattle.array_model.proofs.Notes.{KeepsWanted, value_stays}
 use Rattle.array_model.proofs.Snapshots.{wanted_was}
@@ -151,6 +151,7 @@ module _ (k : ℕ) (uploads : List ℕ) (old new : List ReadSet) (some : 0 < k) 
       let same : (name : List ℕ) → value_in k new name ≡ value_in k old name = (λ name. value_stays uploads (items_of (records_of k old)) (items_of (records_of k new)) keeps name) in
       record {
         reads = record { map = same_values_same_map k old new same; value = same };
+        valid = λ it found. contains_from_among (records_of k old) it (among_was it whole (among_from_contains (records_of k new) it found));
         needed = needed_was;
         notes = λ name stamp one other found also is as_well. keeps.one name stamp one other (keeps.no_more one (among_from_contains _ one found)) (keeps.no_more other (among_from_contains _ other also)) is as_well;
       }
@@ -176,6 +177,7 @@ losses_follow k uploads old mid new some notes one other =
     let then = unneeded_sets_may_go k uploads mid new some first.notes other in
     record {
       reads = record { map = then.reads.map ∙ first.reads.map; value = λ name. then.reads.value name ∙ first.reads.value name };
+      valid = λ it found. first.valid it (then.valid it found);
       needed = λ it needed. first.needed it (then.needed it needed);
       notes = then.notes;
     }

@@ -60,9 +60,11 @@ pub record ReadsTheSame (k : ℕ) (old new : List ReadSet) : Type 0 where
   pub map : map_of k new ≡ map_of k old
   pub value : (name : List ℕ) → value_in k new name ≡ value_in k old name
 
--- So it does, what is needed was needed and stood at the same place, and the premise on notes still holds.
+-- So it does, and what is valid was valid, what is needed was needed, each at its place. So the premise on notes still
+-- holds.
 pub record SaysTheSame (k : ℕ) (uploads : List ℕ) (old new : List ReadSet) : Type 0 where
   pub reads : ReadsTheSame k old new
+  pub valid : (it : Placed) → Contains (records_of k new) it → Contains (records_of k old) it
   pub needed : (it : Placed) → IsNeeded k uploads new it → IsNeeded k uploads old it
   pub notes : NotesAreOne k new
 
@@ -144,6 +146,10 @@ pub record DropsSet (k : ℕ) (uploads : List ℕ) (id : ℕ) (old new : List Re
 -- A dropped set is gone: without it each name stands for what it stood for,
 abbrev pub DroppedSetIsGone : Type 0
 DroppedSetIsGone = (k : ℕ) (uploads : List ℕ) (id : ℕ) (old new : List ReadSet) → 0 < k → DropsSet k uploads id old new → ReadsTheSame k old new
+
+-- nothing of it is valid any more,
+abbrev pub DroppedSetIsEmpty : Type 0
+DroppedSetIsEmpty = (k : ℕ) (uploads : List ℕ) (id : ℕ) (old new : List ReadSet) (it : Placed) → 0 < k → DropsSet k uploads id old new → Contains (records_of k new) it → it.set ≡ id → ⊥
 
 -- the same sets, but of one whatever may be read
 abbrev pub AreSameBut : ℕ → List ReadSet → List ReadSet → Type 0

@@ -1,6 +1,6 @@
 //! Laws of lists of sets. These functions do nothing: their contracts are the theorems.
 
-ghost use Rattle.array_model.specs.SetLaws.{MapHasWhatIsRead, SameValuesSameMap, NewestIsGreatest, NoNewestNoNote, UnneededSetsMayGo, LossesFollow, FirstNeedIsEnough, RecordsWithoutNote, PutNoteIsLast, DeleteNoteIsLast, CopiesChangeNothing, DroppedSetIsGone, DroppedSetMayGo, OpeningChangesNothing, OpeningFixesWhatWasRead};
+ghost use Rattle.array_model.specs.SetLaws.{MapHasWhatIsRead, SameValuesSameMap, NewestIsGreatest, NoNewestNoNote, UnneededSetsMayGo, LossesFollow, FirstNeedIsEnough, RecordsWithoutNote, PutNoteIsLast, DeleteNoteIsLast, CopiesChangeNothing, DroppedSetIsGone, DroppedSetIsEmpty, DroppedSetMayGo, OpeningChangesNothing, OpeningFixesWhatWasRead};
 
 /// The map has for each name what is read of it, so where the same is read of each name the maps are equal.
 pub fn map_is_what_is_read()
@@ -42,9 +42,11 @@ pub fn copies_change_nothing()
 {}
 
 /// A set of which all that is needed has copies in higher sets is dropped by its cut to 0 behind the highest set's records:
-/// the map stays, and it stays whatever is read of that set from then on, as its carriers go one by one.
+/// the map stays, nothing of that set is valid any more, and the map stays whatever is read of it from then on, as its
+/// carriers go one by one.
 pub fn dropped_set_is_gone()
     ensures cut { DroppedSetIsGone }
+    ensures empty { DroppedSetIsEmpty }
     ensures gone { DroppedSetMayGo }
 {}
 
