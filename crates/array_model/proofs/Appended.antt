@@ -8,7 +8,7 @@ use Rattle.array_model.specs.Record.{Record, is_ready}
 use Rattle.array_model.specs.Sets.{ReadSet, Placed, stands, cut_to, kept_by, lesser, least_kept, placed_from, placed, valid, records_of}
 use Rattle.array_model.specs.Map.{items_of}
 use Rattle.array_model.specs.SetLaws.{Appends}
-use Rattle.array_model.proofs.Sets.{lesser_none, standing_ready, kept_least, least_joined, items_placed, items_joined, cut_records, read_standing, read_fallen}
+use Rattle.array_model.proofs.Sets.{lesser_none, standing_ready, kept_least, least_joined, items_placed, items_joined, placed_in, cut_records, read_standing, read_fallen}
 
 -- Sets of which none stands have no valid records.
 none_valid : (k : ℕ) (above : List ReadSet) → AllByRecursion (λ set. stands k set ≡ false) above → valid k above ≡ []
@@ -60,6 +60,10 @@ pub items_extra : (top : ReadSet) (more : List Record) → items_of (extra_of to
 unfolding extra_of
 items_extra top more = items_placed top.id (length top.records) more
 
+pub extra_in : (top : ReadSet) (more : List Record) → AllByRecursion (λ (it : Placed). it.set ≡ top.id) (extra_of top more)
+unfolding extra_of
+extra_in top more = placed_in top.id (length top.records) more
+
 pub read_highest : (k : ℕ) (top : ReadSet) (above : List ReadSet) → stands k top ≡ true → AllByRecursion (λ set. stands k set ≡ false) above → records_of k (top ∷ above) ≡ placed_from top.id 0 top.records
 read_highest k top above stood highest =
     let none = none_valid k above highest in
@@ -78,15 +82,18 @@ read_top k top more above stood highest =
     ∙ ap (λ n. placed_from top.id 0 top.records ++ placed_from top.id n more) (omega arith)
     ∙ ap (λ r. r ++ placed_from top.id (length top.records) more) (sym (read_highest k top above stood highest))
 
--- What is read after more records that cut nothing off.
+-- What is valid after more records that cut nothing off, and what it says.
+pub read_places : (k : ℕ) (more : List Record) (old new : List ReadSet) (it : Appends k more old new) → CutNothingOff k more (it.top ∷ it.above) it.below → records_of k new ≡ records_of k old ++ extra_of it.top more
+read_places k more old new it nothing =
+    ap (records_of k) it.is
+    ∙ read_appended k more (it.top ∷ it.above) _ (extra_of it.top more) (read_top k it.top more it.above it.stood it.highest) (items_extra it.top more) it.below nothing
+    ∙ ap (λ sets. records_of k sets ++ extra_of it.top more) (sym it.was)
+
 pub read_more : (k : ℕ) (more : List Record) (old new : List ReadSet) (it : Appends k more old new) → CutNothingOff k more (it.top ∷ it.above) it.below → items_of (records_of k new) ≡ items_of (records_of k old) ++ more
 read_more k more old new it nothing =
-    let extra = extra_of it.top more in
-    ap (λ sets. items_of (records_of k sets)) it.is
-    ∙ ap items_of (read_appended k more (it.top ∷ it.above) _ extra (read_top k it.top more it.above it.stood it.highest) (items_extra it.top more) it.below nothing)
-    ∙ items_joined (records_of k (it.below ++ it.top ∷ it.above)) extra
-    ∙ ap (λ items. items_of (records_of k (it.below ++ it.top ∷ it.above)) ++ items) (items_extra it.top more)
-    ∙ ap (λ sets. items_of (records_of k sets) ++ more) (sym it.was)
+    ap items_of (read_places k more old new it nothing)
+    ∙ items_joined (records_of k old) (extra_of it.top more)
+    ∙ ap (λ items. items_of (records_of k old) ++ items) (items_extra it.top more)
 
 -- Records among which is no cut cut nothing off.
 pub no_cut_nothing_off : (k : ℕ) (more : List Record) (tail : List ReadSet) → ((target : ℕ) → least_kept target more ≡ None) → (below : List ReadSet) → CutNothingOff k more tail below

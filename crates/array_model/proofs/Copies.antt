@@ -2,10 +2,10 @@
 use Rattle.std.proofs.Common.{◌≡◌, ℕ, ◌<◌, min, Bool, true, false, List, [], ◌∷◌, ◌++◌, Option, Some, None, inl, inr, refl, sym, ap, ◌∙◌, subst, arith}
 use Rattle.std.specs.List.{AllByRecursion}
 use Rattle.array_model.specs.Record.{Record, Head, Ready, Part, Put, Delete, Cut, Digest, Snapshot, note_stamp}
-use Rattle.array_model.specs.Sets.{ReadSet, Placed, placed_from, RiseAbove, stands, cut_to, kept_by, lesser, least_kept, valid, records_of}
+use Rattle.array_model.specs.Sets.{ReadSet, Placed, AreRising, placed_from, RiseAbove, stands, cut_to, kept_by, lesser, least_kept, valid, records_of}
 use Rattle.array_model.specs.Map.{items_of, newest, part_of, or_else, value_of, value_in}
 use Rattle.array_model.specs.Need.{IsNeeded, IsWanted}
-use Rattle.array_model.specs.SetLaws.{CutsAreOfLower, IsCopyOfNeeded, CopiesChangeNothing}
+use Rattle.array_model.specs.SetLaws.{Appends, CutsAreOfLower, IsCopyOfNeeded, CopiesChangeNothing}
 use Rattle.array_model.proofs.Records.{Among, among_joined, among_rest, contains_from_among, least_at_most, least_is_there, newest_is_note, newest_bound}
 use Rattle.array_model.proofs.Objects.{SameParts, part_has_first, first_is_there}
 use Rattle.array_model.proofs.MapLaws.{same_values_same_map}
@@ -75,15 +75,15 @@ wanted_is_newest uploads name items (Put own s upload parts bytes) stamp at want
 wanted_is_newest uploads name items (Delete own s) stamp at wanted = ap (λ n. newest n items) (sym (delete_named name own s stamp at)) ∙ wanted.0
 
 module _ (k : ℕ) (uploads : List ℕ) (old : List ReadSet) (more : List Record) (copies : AllByRecursion (IsCopyOfNeeded k uploads old) more) where
-  copied : (item : Record) → Among item more → IsCopyOfNeeded k uploads old item
+  pub copied : (item : Record) → Among item more → IsCopyOfNeeded k uploads old item
   copied item found = all_among (IsCopyOfNeeded k uploads old) more item copies found
 
   -- A copy is of a record that is there.
-  copy_there : (item : Record) → Among item more → Among item (items_of (records_of k old))
+  pub copy_there : (item : Record) → Among item more → Among item (items_of (records_of k old))
   copy_there item found = let it = copied item found in among_items (records_of k old) it.0 item (needed_among k uploads old it.0 it.1) it.2
 
   -- A copy of a note is of the newest of its name.
-  copy_wanted : (item : Record) → ((target kept : ℕ) → item ≡ Cut target kept → ⊥) → Among item more → IsWanted uploads (items_of (records_of k old)) item
+  pub copy_wanted : (item : Record) → ((target kept : ℕ) → item ≡ Cut target kept → ⊥) → Among item more → IsWanted uploads (items_of (records_of k old)) item
   copy_wanted item no_cut found =
       let it = copied item found in
       elim it.1.why [
@@ -91,13 +91,13 @@ module _ (k : ℕ) (uploads : List ℕ) (old : List ReadSet) (more : List Record
         | inr last ↦ absurd (no_cut last.0 last.1 (sym it.2 ∙ last.2))
       ]
 
-  copied_newest : (name : List ℕ) (note : Record) → newest name more ≡ Some note → newest name (items_of (records_of k old)) ≡ Some note
+  pub copied_newest : (name : List ℕ) (note : Record) → newest name more ≡ Some note → newest name (items_of (records_of k old)) ≡ Some note
   copied_newest name note is =
       let told = newest_is_note name more note is in
       let at = told.1.1 in
       wanted_is_newest uploads name (items_of (records_of k old)) note told.1.0 at (copy_wanted note (λ target kept cut. let e = ap (note_stamp name) cut in cc) told.0)
 
-  newest_copied : (name : List ℕ) → newest name (items_of (records_of k old) ++ more) ≡ newest name (items_of (records_of k old))
+  pub newest_copied : (name : List ℕ) → newest name (items_of (records_of k old) ++ more) ≡ newest name (items_of (records_of k old))
   newest_copied name = behind (newest name more) refl
     where
       behind : (found : Option Record) → newest name more ≡ found → newest name (items_of (records_of k old) ++ more) ≡ newest name (items_of (records_of k old))
@@ -122,13 +122,16 @@ module _ (k : ℕ) (uploads : List ℕ) (old : List ReadSet) (more : List Record
       let there = needed_among k uploads old it.0 it.1 in
       (it.0, there, it.2, lower it.0 target kept (contains_from_among (records_of k old) it.0 there) it.2)
 
+-- They cut nothing off.
+pub copies_cut_nothing : (k : ℕ) (uploads : List ℕ) (more : List Record) (old new : List ReadSet) → AreRising old → CutsAreOfLower k old → (appends : Appends k more old new) → AllByRecursion (IsCopyOfNeeded k uploads old) more → CutNothingOff k more (appends.top ∷ appends.above) appends.below
+copies_cut_nothing k uploads more old new rising lower appends copies =
+    copied_cuts k more old (appends.top ∷ appends.above) appends.below 0 (cuts_copied k uploads old more copies lower)
+    (subst (λ sets. RiseAbove 0 sets) appends.was rising) (λ it higher found. subst (λ sets. Among it (records_of k sets)) appends.was found)
+
 pub copies_change_nothing : CopiesChangeNothing
 copies_change_nothing k uploads more old new rising lower appends copies =
     let items = items_of (records_of k old) in
-    let tail = appends.top ∷ appends.above in
-    let rise : RiseAbove 0 (appends.below ++ tail) = subst (λ sets. RiseAbove 0 sets) appends.was rising in
-    let nothing = copied_cuts k more old tail appends.below 0 (cuts_copied k uploads old more copies lower) rise (λ it higher found. subst (λ sets. Among it (records_of k sets)) appends.was found) in
-    let read = read_more k more old new appends nothing in
+    let read = read_more k more old new appends (copies_cut_nothing k uploads more old new rising lower appends copies) in
     let same : (name : List ℕ) → value_in k new name ≡ value_in k old name = (λ name. ap (λ r. value_of r name) read
     ∙ value_behind items more name (newest_copied k uploads old more copies name) (λ own stamp upload parts bytes is. parts_copied k uploads old more copies upload)) in
     record { map = same_values_same_map k old new same; value = same }

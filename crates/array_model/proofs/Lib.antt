@@ -10,6 +10,7 @@ pub mod Appended
 pub mod Behind
 pub mod Copies
 pub mod Dropped
+pub mod CopiedSet
 pub mod CutOff
 pub mod DroppedSet
 pub mod Opening

@@ -126,6 +126,10 @@ IsCopyOfNeeded k uploads sets item = (it : Placed) × IsNeeded k uploads sets it
 abbrev pub CopiesChangeNothing : Type 0
 CopiesChangeNothing = (k : ℕ) (uploads : List ℕ) (more : List Record) (old new : List ReadSet) → AreRising old → CutsAreOfLower k old → Appends k more old new → AllByRecursion (IsCopyOfNeeded k uploads old) more → ReadsTheSame k old new
 
+-- They make nothing needed of the sets below.
+abbrev pub CopiesMakeNothingNeeded : Type 0
+CopiesMakeNothingNeeded = (k : ℕ) (uploads : List ℕ) (more : List Record) (old new : List ReadSet) (it : Placed) → AreRising old → CutsAreOfLower k old → (appends : Appends k more old new) → AllByRecursion (IsCopyOfNeeded k uploads old) more → it.set < appends.top.id → IsNeeded k uploads new it → IsNeeded k uploads old it
+
 -- Two valid parts of one upload with one number are equal. (Else, once the first is gone, the other takes its place.)
 abbrev pub PartsAreOne : ℕ → List ReadSet → Type 0
 PartsAreOne k sets = (upload part : ℕ) (one other : List ℕ) → Contains (items_of (records_of k sets)) (Part upload part one) → Contains (items_of (records_of k sets)) (Part upload part other) → one ≡ other
@@ -133,6 +137,10 @@ PartsAreOne k sets = (upload part : ℕ) (one other : List ℕ) → Contains (it
 -- All that is needed of the set has copies in higher sets.
 abbrev pub HasHigherCopies : ℕ → List ℕ → List ReadSet → ℕ → Type 0
 HasHigherCopies k uploads sets id = (it : Placed) → IsNeeded k uploads sets it → it.set ≡ id → (copy : Placed) × Contains (records_of k sets) copy × (id < copy.set) × (copy.item ≡ it.item)
+
+-- So it has where all of it is copied behind the records of the highest set.
+abbrev pub CopiedSetHasCopies : Type 0
+CopiedSetHasCopies = (k : ℕ) (uploads : List ℕ) (more : List Record) (id : ℕ) (old new : List ReadSet) → AreRising old → CutsAreOfLower k old → (appends : Appends k more old new) → AllByRecursion (IsCopyOfNeeded k uploads old) more → ((it : Placed) → IsNeeded k uploads old it → it.set ≡ id → Contains more it.item) → id < appends.top.id → HasHigherCopies k uploads new id
 
 -- A set is dropped: behind the records of a higher set that is the highest that stands comes its cut to 0.
 pub record DropsSet (k : ℕ) (uploads : List ℕ) (id : ℕ) (old new : List ReadSet) : Type 0 where

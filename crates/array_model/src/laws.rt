@@ -1,6 +1,6 @@
 //! Laws of lists of sets. These functions do nothing: their contracts are the theorems.
 
-ghost use Rattle.array_model.specs.SetLaws.{MapHasWhatIsRead, SameValuesSameMap, NewestIsGreatest, NoNewestNoNote, UnneededSetsMayGo, LossesFollow, FirstNeedIsEnough, RecordsWithoutNote, PutNoteIsLast, DeleteNoteIsLast, CopiesChangeNothing, DroppedSetIsGone, DroppedSetIsEmpty, DroppedSetMayGo, OpeningChangesNothing, OpeningFixesWhatWasRead};
+ghost use Rattle.array_model.specs.SetLaws.{MapHasWhatIsRead, SameValuesSameMap, NewestIsGreatest, NoNewestNoNote, UnneededSetsMayGo, LossesFollow, FirstNeedIsEnough, RecordsWithoutNote, PutNoteIsLast, DeleteNoteIsLast, CopiesChangeNothing, CopiesMakeNothingNeeded, CopiedSetHasCopies, DroppedSetIsGone, DroppedSetIsEmpty, DroppedSetMayGo, OpeningChangesNothing, OpeningFixesWhatWasRead};
 
 /// The map has for each name what is read of it, so where the same is read of each name the maps are equal.
 pub fn map_is_what_is_read()
@@ -36,9 +36,12 @@ pub fn note_is_last()
     ensures delete { DeleteNoteIsLast }
 {}
 
-/// Copies of needed records behind those of the highest set that stands change nothing.
+/// Copies of needed records behind those of the highest set that stands leave the map and make nothing needed of the sets
+/// below. Once all that is needed of one of those is copied, it has copies in a higher set.
 pub fn copies_change_nothing()
-    ensures { CopiesChangeNothing }
+    ensures map { CopiesChangeNothing }
+    ensures need { CopiesMakeNothingNeeded }
+    ensures higher { CopiedSetHasCopies }
 {}
 
 /// A set of which all that is needed has copies in higher sets is dropped by its cut to 0 behind the highest set's records:

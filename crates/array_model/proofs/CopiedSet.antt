@@ -1,0 +1,153 @@
+-- Copies make nothing else needed.
+use Rattle.std.proofs.Common.{◌≡◌, ℕ, ◌+◌, ◌<◌, Bool, false, cond, count_by, List, [], ◌∷◌, ◌++◌, Option, Some, None, is_some, Contains, ◌⊎◌, inl, inr, ⊎_elim, refl, sym, ap, ◌∙◌, subst, arith}
+use Rattle.std.specs.List.{AllByRecursion}
+use Rattle.std.proofs.lemmas.Option.{same_Some}
+use Rattle.std.proofs.lemmas.List.Sums.{sum_by-append}
+use Rattle.array_model.specs.Record.{Record, Head, Ready, Part, Put, Delete, Cut, Digest, Snapshot}
+use Rattle.array_model.specs.Sets.{ReadSet, Placed, AreRising, records_of, HasCarrier}
+use Rattle.array_model.specs.Map.{items_of, newest}
+use Rattle.array_model.specs.Need.{IsNeeded, IsWanted, IsComplete}
+use Rattle.array_model.specs.SetLaws.{Appends, CutsAreOfLower, IsCopyOfNeeded, CopiesMakeNothingNeeded, CopiedSetHasCopies}
+use Rattle.array_model.proofs.Records.{Among, among_from_contains, contains_from_among, among_joined, among_first, among_rest, newest_is_note, no_newest}
+use Rattle.array_model.proofs.Behind.{all_among}
+use Rattle.array_model.proofs.Thinned.{counted, item_among}
+use Rattle.array_model.proofs.Notes.{is_note}
+use Rattle.array_model.proofs.Sets.{items_joined}
+use Rattle.array_model.proofs.Appended.{extra_of, items_extra, extra_in, read_places}
+use Rattle.array_model.proofs.Copies.{copy_there, copy_wanted, copied_newest, newest_copied, copies_cut_nothing}
+
+-- A record among joined records stands in the first of them, or in the rest.
+split_joined : {X : Type 0} (before : List X) (it : X) (after first rest : List X) → first ++ rest ≡ before ++ it ∷ after → ((more : List X) × (first ≡ before ++ it ∷ more) × (after ≡ more ++ rest)) ⊎ Among it rest
+split_joined [] it after [] rest is = inr (subst (λ r. Among it r) (sym is) (inl refl))
+split_joined [] it after (x ∷ first) rest is =
+    let head : x ≡ it = cc in
+    let tail : first ++ rest ≡ after = cc in
+    inl (first, ap (λ y. y ∷ first) head, sym tail)
+split_joined (b ∷ before) it after [] rest is = inr (subst (λ r. Among it r) (sym is) (inr (among_rest before (it ∷ after) it (inl refl))))
+split_joined (b ∷ before) it after (x ∷ first) rest is =
+    let head : x ≡ b = cc in
+    let tail : first ++ rest ≡ before ++ it ∷ after = cc in
+    elim (split_joined before it after first rest tail) [
+      | inl found ↦ inl (found.0, ap (λ f. x ∷ f) found.1 ∙ ap (λ y. y ∷ (before ++ it ∷ found.0)) head, found.2)
+      | inr later ↦ inr later
+    ]
+
+-- More records of a set leave its carriers.
+same_carriers : (below : List ReadSet) (top : ReadSet) (more : List Record) (above : List ReadSet) (id : ℕ) → HasCarrier (below ++ record top { records = top.records ++ more } ∷ above) id → HasCarrier (below ++ top ∷ above) id
+same_carriers [] top more above id has = has
+same_carriers (set ∷ below) top more above id (inl here) = inl here
+same_carriers (set ∷ below) top more above id (inr later) = inr (same_carriers below top more above id later)
+
+-- None of a kind counts for none.
+count_none : (test : Record → Bool) (items : List Record) → ((item : Record) → Among item items → test item ≡ false) → count_by test items ≡ 0
+count_none test [] none = refl
+count_none test (item ∷ items) none =
+    let one = counted test item items in
+    let here : cond {A = ℕ} (test item) 1 0 ≡ 0 = ap (λ b. cond {A = ℕ} b 1 0) (none item (inl refl)) in
+    let rest = count_none test items (λ other found. none other (inr found)) in
+    omega arith
+
+module _ (k : ℕ) (uploads : List ℕ) (old : List ReadSet) (more : List Record) (copies : AllByRecursion (IsCopyOfNeeded k uploads old) more) where
+  abbrev items : List Record
+  items = items_of (records_of k old)
+
+  -- Each record with the copies is one without them.
+  without_copies : (item : Record) → Among item (items ++ more) → Among item items
+  without_copies item found = ⊎_elim (λ first. first) (λ copy. copy_there k uploads old more copies item copy) (among_joined items more item found)
+
+  -- A delete that is wanted with the copies was wanted: a copy of a note of its name is a copy of it.
+  delete_was : (name : List ℕ) (stamp : ℕ) → IsWanted uploads (items ++ more) (Delete name stamp) → IsWanted uploads items (Delete name stamp)
+  delete_was name stamp wanted = by_copies (newest name more) refl
+    where
+      was : newest name (items_of (records_of k old)) ≡ Some (Delete name stamp)
+      was = sym (newest_copied k uploads old more copies name) ∙ wanted.0
+
+      by_copies : (found : Option Record) → newest name more ≡ found → IsWanted uploads (items_of (records_of k old)) (Delete name stamp)
+      by_copies None none =
+          let zero_more : count_by (is_note name) more ≡ 0 = count_none (is_note name) more (λ item found. ap is_some (no_newest name more none item found)) in
+          let joined : count_by (is_note name) (items_of (records_of k old) ++ more) ≡ count_by (is_note name) (items_of (records_of k old)) + count_by (is_note name) more = sum_by-append (λ item. cond (is_note name item) 1 0) (items_of (records_of k old)) more in
+          let several = wanted.1 in
+          (was, omega arith)
+      by_copies (Some note) is =
+          let its = copied_newest k uploads old more copies name note is in
+          let same : note ≡ Delete name stamp = same_Some _ _ (sym its ∙ was) in
+          let told = newest_is_note name more note is in
+          subst (λ (r : Record). IsWanted uploads (items_of (records_of k old)) r) same
+          (copy_wanted k uploads old more copies note (λ target kept cut. let e : Cut target kept ≡ Delete name stamp = sym cut ∙ same in cc) told.0)
+
+  complete_was : (stamp : ℕ) → IsComplete (items ++ more) stamp → IsComplete items stamp
+  complete_was stamp it = record {
+    parts = it.parts;
+    bytes = it.bytes;
+    some = it.some;
+    payloads = it.payloads;
+    count = it.count;
+    each = λ i payload below before after is at. contains_from_among (items_of (records_of k old)) _ (without_copies _ (among_from_contains (items_of (records_of k old) ++ more) _ (it.each i payload below before after is at)));
+    whole = it.whole;
+  }
+
+  complete_still : (stamp : ℕ) → IsComplete items stamp → IsComplete (items ++ more) stamp
+  complete_still stamp it = record {
+    parts = it.parts;
+    bytes = it.bytes;
+    some = it.some;
+    payloads = it.payloads;
+    count = it.count;
+    each = λ i payload below before after is at. contains_from_among (items_of (records_of k old) ++ more) _ (among_first (items_of (records_of k old)) more _ (among_from_contains (items_of (records_of k old)) _ (it.each i payload below before after is at)));
+    whole = it.whole;
+  }
+
+  -- What is wanted with the copies was wanted.
+  wanted_was : (item : Record) → IsWanted uploads (items ++ more) item → IsWanted uploads items item
+  wanted_was Head wanted = wanted
+  wanted_was Ready wanted = wanted
+  wanted_was (Cut target kept) wanted = wanted
+  wanted_was (Digest part parts payload) wanted = wanted
+  wanted_was (Put name stamp upload parts bytes) wanted = sym (newest_copied k uploads old more copies name) ∙ wanted
+  wanted_was (Delete name stamp) wanted = delete_was name stamp wanted
+  wanted_was (Part upload part payload) (inl open_upload) = inl open_upload
+  wanted_was (Part upload part payload) (inr of_newest) = inr (of_newest.0, of_newest.1, of_newest.2, of_newest.3, sym (newest_copied k uploads old more copies of_newest.0) ∙ of_newest.4)
+  wanted_was (Snapshot stamp part parts bytes payload) wanted = record {
+    complete = complete_was stamp wanted.complete;
+    newest_one = λ other it. wanted.newest_one other (complete_still other it);
+  }
+
+  -- What is needed of a lower set with the copies was needed.
+  needed_was : (new : List ReadSet) → AreRising old → CutsAreOfLower k old → (appends : Appends k more old new) → (it : Placed) → it.set < appends.top.id → IsNeeded k uploads new it → IsNeeded k uploads old it
+  needed_was new rising lower appends it below needed = place (split_joined needed.before it needed.after (records_of k old) extra (sym read ∙ needed.valid))
+    where
+      extra : List Placed
+      extra = extra_of appends.top more
+
+      read : records_of k new ≡ records_of k old ++ extra
+      read = read_places k more old new appends (copies_cut_nothing k uploads more old new rising lower appends copies)
+
+      read_items : items_of (records_of k new) ≡ items_of (records_of k old) ++ more
+      read_items = ap items_of read ∙ items_joined (records_of k old) extra ∙ ap (λ r. items_of (records_of k old) ++ r) (items_extra appends.top more)
+
+      has_was : (id : ℕ) → HasCarrier new id → HasCarrier old id
+      has_was id has = subst (λ sets. HasCarrier sets id) (sym appends.was) (same_carriers appends.below appends.top more appends.above id (subst (λ sets. HasCarrier sets id) appends.is has))
+
+      place : ((later : List Placed) × (records_of k old ≡ needed.before ++ it ∷ later) × (needed.after ≡ later ++ extra)) ⊎ Among it extra → IsNeeded k uploads old it
+      place (inr among) = let same = all_among (λ (r : Placed). r.set ≡ appends.top.id) extra it (extra_in appends.top more) among in absurd (omega arith)
+      place (inl found) = record {
+        before = needed.before;
+        after = found.0;
+        valid = found.1;
+        why = ⊎_elim
+            (λ wanted. inl (wanted_was it.item (subst (λ r. IsWanted uploads r it.item) read_items wanted.0), wanted.1))
+            (λ last. inr (last.0, last.1, last.2, has_was last.0 last.3, λ other among cuts. last.4 other (subst (λ r. Contains r other) (sym found.2) (contains_from_among _ other (among_first found.0 extra other (among_from_contains found.0 other among)))) cuts))
+            needed.why;
+      }
+
+pub copies_make_nothing_needed : CopiesMakeNothingNeeded
+copies_make_nothing_needed k uploads more old new it rising lower appends copies below needed = needed_was k uploads old more copies new rising lower appends it below needed
+
+pub copied_set_has_copies : CopiedSetHasCopies
+copied_set_has_copies k uploads more id old new rising lower appends copies all below it needed own =
+    let was = needed_was k uploads old more copies new rising lower appends it (let e = own in omega arith) needed in
+    let extra = extra_of appends.top more in
+    let read = read_places k more old new appends (copies_cut_nothing k uploads more old new rising lower appends copies) in
+    let copy = item_among extra it.item (subst (λ items. Among it.item items) (sym (items_extra appends.top more)) (among_from_contains more it.item (all it was own))) in
+    let at = all_among (λ (r : Placed). r.set ≡ appends.top.id) extra copy.0 (extra_in appends.top more) copy.1 in
+    (copy.0, subst (λ r. Contains r copy.0) (sym read) (contains_from_among (records_of k old ++ extra) copy.0 (among_rest (records_of k old) extra copy.0 copy.1)), omega arith, copy.2)
