@@ -5,7 +5,7 @@ use Rattle.std.proofs.lemmas.Slice.Eq.{bytes_eq-Decides}
 use Rattle.std.specs.Cmp.Lexicographic.{nat_list_cmp_total}
 use Rattle.std.specs.List.{AllByRecursion}
 use Rattle.std.specs.FinMap as finmap
-use Rattle.array_model.specs.Record.{Record, Head, Ready, Part, Put, Delete, Cut, Digest, Snapshot, note_stamp, payload_of, kept_of}
+use Rattle.array_model.specs.Record.{Record, Part, Put, Delete, Cut, note_stamp, payload_of, kept_of}
 use Rattle.array_model.specs.Sets.{ReadSet, least_kept, lesser, records_of}
 use Rattle.array_model.specs.Map.{items_of, newest, later_note, said_by, value_of, part_of, or_else}
 use Rattle.array_model.specs.Map.{value_in, map_of, with_value}
@@ -88,38 +88,21 @@ value_behind items more name same parts = ap (said_by (items ++ more)) same ∙ 
 
 -- What a record without its note doesn't say.
 silent_note : (items : List Record) (name : List ℕ) (item : Record) → IsWithoutNote items item → note_stamp name item ≡ None
-silent_note items name Head silent = refl
-silent_note items name Ready silent = refl
-silent_note items name (Part upload part payload) silent = refl
 silent_note items name (Put own stamp upload parts bytes) silent = absurd silent
 silent_note items name (Delete own stamp) silent = absurd silent
-silent_note items name (Cut target kept) silent = refl
-silent_note items name (Digest part parts payload) silent = refl
-silent_note items name (Snapshot stamp part parts bytes payload) silent = refl
+silent_note items name item silent = refl
 
 silent_cut : (items : List Record) (target : ℕ) (item : Record) → IsWithoutNote items item → kept_of target item ≡ None
-silent_cut items target Head silent = refl
-silent_cut items target Ready silent = refl
-silent_cut items target (Part upload part payload) silent = refl
-silent_cut items target (Put own stamp upload parts bytes) silent = refl
-silent_cut items target (Delete own stamp) silent = refl
 silent_cut items target (Cut other kept) silent = absurd silent
-silent_cut items target (Digest part parts payload) silent = refl
-silent_cut items target (Snapshot stamp part parts bytes payload) silent = refl
+silent_cut items target item silent = refl
 
 silent_part : (items : List Record) (upload part : ℕ) (item : Record) → IsUploadOfNewest items upload → IsWithoutNote items item → payload_of upload part item ≡ None
-silent_part items upload part Head named silent = refl
-silent_part items upload part Ready named silent = refl
 silent_part items upload part (Part u i payload) named silent =
     elim ((u == upload) && (i == part)) as (λ b. ((u == upload) && (i == part)) ≡ b → cond b (Some payload) None ≡ None) [
       | true ↦ λ same. absurd (silent (subst (λ n. IsUploadOfNewest items n) (sym (eqb-true u upload (and_parts (u == upload) (i == part) same).0)) named))
       | false ↦ λ differs. refl
     ] refl
-silent_part items upload part (Put own stamp u parts bytes) named silent = refl
-silent_part items upload part (Delete own stamp) named silent = refl
-silent_part items upload part (Cut other kept) named silent = refl
-silent_part items upload part (Digest i parts payload) named silent = refl
-silent_part items upload part (Snapshot stamp i parts bytes payload) named silent = refl
+silent_part items upload part item named silent = refl
 
 -- The upload of a newest put note is that of the newest note of the name that it bears.
 named_upload : (name : List ℕ) (items : List Record) (own : List ℕ) (stamp upload parts bytes : ℕ) → newest name items ≡ Some (Put own stamp upload parts bytes) → IsUploadOfNewest items upload

@@ -3,15 +3,16 @@ use Rattle.std.proofs.Common.{◌≡◌, ℕ, ◌+◌, ◌<◌, Bool, false, con
 use Rattle.std.specs.List.{AllByRecursion}
 use Rattle.std.proofs.lemmas.Option.{same_Some}
 use Rattle.std.proofs.lemmas.List.Sums.{sum_by-append}
-use Rattle.array_model.specs.Record.{Record, Head, Ready, Part, Put, Delete, Cut, Digest, Snapshot}
+use Rattle.array_model.specs.Record.{Record, Part, Put, Delete, Cut, Snapshot}
 use Rattle.array_model.specs.Sets.{ReadSet, Placed, AreRising, records_of, HasCarrier}
 use Rattle.array_model.specs.Map.{items_of, newest}
-use Rattle.array_model.specs.Need.{IsNeeded, IsWanted, IsComplete}
+use Rattle.array_model.specs.Need.{IsNeeded, IsWanted}
 use Rattle.array_model.specs.SetLaws.{Appends, CutsAreOfLower, IsCopyOfNeeded, CopiesMakeNothingNeeded, CopiedSetHasCopies}
 use Rattle.array_model.proofs.Records.{Among, among_from_contains, contains_from_among, among_joined, among_first, among_rest, newest_is_note, no_newest}
 use Rattle.array_model.proofs.Behind.{all_among}
 use Rattle.array_model.proofs.Thinned.{counted, item_among}
 use Rattle.array_model.proofs.Notes.{is_note}
+use Rattle.array_model.proofs.Snapshots.{complete_among}
 use Rattle.array_model.proofs.Sets.{items_joined}
 use Rattle.array_model.proofs.Appended.{extra_of, items_extra, extra_in, read_places}
 use Rattle.array_model.proofs.Copies.{copy_there, copy_wanted, copied_newest, newest_copied, copies_cut_nothing}
@@ -75,42 +76,17 @@ module _ (k : ℕ) (uploads : List ℕ) (old : List ReadSet) (more : List Record
           subst (λ (r : Record). IsWanted uploads (items_of (records_of k old)) r) same
           (copy_wanted k uploads old more copies note (λ target kept cut. let e : Cut target kept ≡ Delete name stamp = sym cut ∙ same in cc) told.0)
 
-  complete_was : (stamp : ℕ) → IsComplete (items ++ more) stamp → IsComplete items stamp
-  complete_was stamp it = record {
-    parts = it.parts;
-    bytes = it.bytes;
-    some = it.some;
-    payloads = it.payloads;
-    count = it.count;
-    each = λ i payload below before after is at. contains_from_among (items_of (records_of k old)) _ (without_copies _ (among_from_contains (items_of (records_of k old) ++ more) _ (it.each i payload below before after is at)));
-    whole = it.whole;
-  }
-
-  complete_still : (stamp : ℕ) → IsComplete items stamp → IsComplete (items ++ more) stamp
-  complete_still stamp it = record {
-    parts = it.parts;
-    bytes = it.bytes;
-    some = it.some;
-    payloads = it.payloads;
-    count = it.count;
-    each = λ i payload below before after is at. contains_from_among (items_of (records_of k old) ++ more) _ (among_first (items_of (records_of k old)) more _ (among_from_contains (items_of (records_of k old)) _ (it.each i payload below before after is at)));
-    whole = it.whole;
-  }
-
   -- What is wanted with the copies was wanted.
   wanted_was : (item : Record) → IsWanted uploads (items ++ more) item → IsWanted uploads items item
-  wanted_was Head wanted = wanted
-  wanted_was Ready wanted = wanted
-  wanted_was (Cut target kept) wanted = wanted
-  wanted_was (Digest part parts payload) wanted = wanted
   wanted_was (Put name stamp upload parts bytes) wanted = sym (newest_copied k uploads old more copies name) ∙ wanted
   wanted_was (Delete name stamp) wanted = delete_was name stamp wanted
   wanted_was (Part upload part payload) (inl open_upload) = inl open_upload
   wanted_was (Part upload part payload) (inr of_newest) = inr (of_newest.0, of_newest.1, of_newest.2, of_newest.3, sym (newest_copied k uploads old more copies of_newest.0) ∙ of_newest.4)
   wanted_was (Snapshot stamp part parts bytes payload) wanted = record {
-    complete = complete_was stamp wanted.complete;
-    newest_one = λ other it. wanted.newest_one other (complete_still other it);
+    complete = complete_among (items_of (records_of k old) ++ more) (items_of (records_of k old)) stamp (λ part parts bytes payload found. without_copies _ found) wanted.complete;
+    newest_one = λ other it. wanted.newest_one other (complete_among (items_of (records_of k old)) (items_of (records_of k old) ++ more) other (λ part parts bytes payload found. among_first _ more _ found) it);
   }
+  wanted_was item wanted = wanted
 
   -- What is needed of a lower set with the copies was needed.
   needed_was : (new : List ReadSet) → AreRising old → CutsAreOfLower k old → (appends : Appends k more old new) → (it : Placed) → it.set < appends.top.id → IsNeeded k uploads new it → IsNeeded k uploads old it

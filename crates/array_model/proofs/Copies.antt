@@ -1,7 +1,7 @@
 -- Copies of needed records change nothing.
 use Rattle.std.proofs.Common.{◌≡◌, ℕ, ◌<◌, min, Bool, true, false, List, [], ◌∷◌, ◌++◌, Option, Some, None, inl, inr, refl, sym, ap, ◌∙◌, subst, arith}
 use Rattle.std.specs.List.{AllByRecursion}
-use Rattle.array_model.specs.Record.{Record, Head, Ready, Part, Put, Delete, Cut, Digest, Snapshot, note_stamp}
+use Rattle.array_model.specs.Record.{Record, Part, Put, Delete, Cut, note_stamp}
 use Rattle.array_model.specs.Sets.{ReadSet, Placed, AreRising, placed_from, RiseAbove, stands, cut_to, kept_by, lesser, least_kept, valid, records_of}
 use Rattle.array_model.specs.Map.{items_of, newest, part_of, or_else, value_of, value_in}
 use Rattle.array_model.specs.Need.{IsNeeded, IsWanted}
@@ -65,14 +65,9 @@ copied_cuts k more all tail (set ∷ below) low copied rise there =
 
 -- A note that is wanted is the newest of its name.
 pub wanted_is_newest : (uploads name : List ℕ) (items : List Record) (note : Record) (stamp : ℕ) → note_stamp name note ≡ Some stamp → IsWanted uploads items note → newest name items ≡ Some note
-wanted_is_newest uploads name items Head stamp at wanted = absurd (cc)
-wanted_is_newest uploads name items Ready stamp at wanted = absurd (cc)
-wanted_is_newest uploads name items (Part upload part payload) stamp at wanted = absurd (cc)
-wanted_is_newest uploads name items (Cut target kept) stamp at wanted = absurd (cc)
-wanted_is_newest uploads name items (Digest part parts payload) stamp at wanted = absurd (cc)
-wanted_is_newest uploads name items (Snapshot s part parts bytes payload) stamp at wanted = absurd (cc)
 wanted_is_newest uploads name items (Put own s upload parts bytes) stamp at wanted = ap (λ n. newest n items) (sym (put_named name own s upload parts bytes stamp at)) ∙ wanted
 wanted_is_newest uploads name items (Delete own s) stamp at wanted = ap (λ n. newest n items) (sym (delete_named name own s stamp at)) ∙ wanted.0
+wanted_is_newest uploads name items item stamp at wanted = absurd (cc)
 
 module _ (k : ℕ) (uploads : List ℕ) (old : List ReadSet) (more : List Record) (copies : AllByRecursion (IsCopyOfNeeded k uploads old) more) where
   pub copied : (item : Record) → Among item more → IsCopyOfNeeded k uploads old item

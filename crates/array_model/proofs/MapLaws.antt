@@ -7,7 +7,7 @@ use Rattle.std.proofs.lemmas.Map.Text.{is_eq-slice_cmp}
 use Rattle.std.proofs.lemmas.Slice.Eq.{bytes_eq-Decides}
 use Rattle.std.specs.FinMap as finmap
 use Rattle.smore_base.specs.Objects.{Value, Map}
-use Rattle.array_model.specs.Record.{Record, Head, Ready, Part, Put, Delete, Cut, Digest, Snapshot, note_stamp}
+use Rattle.array_model.specs.Record.{Record, Put, Delete, note_stamp}
 use Rattle.array_model.specs.Sets.{records_of}
 use Rattle.array_model.specs.Map.{items_of, newest, said_by, value_of, with_value, map_by, map_of}
 use Rattle.array_model.specs.SetLaws.{MapHasWhatIsRead, SameValuesSameMap}
@@ -50,14 +50,9 @@ at_note items name own stamp item more is has rest false differs =
 
 gets : (items : List Record) (name : List ℕ) (more : List Record) → Gets items name more
 gets items name [] = inr (finmap.get-empty (slice_cmp nat_cmp) name, λ item found. absurd found)
-gets items name (Head ∷ more) = past items name Head more refl refl (gets items name more)
-gets items name (Ready ∷ more) = past items name Ready more refl refl (gets items name more)
-gets items name (Part u i p ∷ more) = past items name (Part u i p) more refl refl (gets items name more)
-gets items name (Cut t n ∷ more) = past items name (Cut t n) more refl refl (gets items name more)
-gets items name (Digest i n p ∷ more) = past items name (Digest i n p) more refl refl (gets items name more)
-gets items name (Snapshot s i n b p ∷ more) = past items name (Snapshot s i n b p) more refl refl (gets items name more)
 gets items name (Put own stamp u n b ∷ more) = at_note items name own stamp (Put own stamp u n b) more refl (get_with own name (value_of items own) (map_by items more)) (gets items name more) (bytes_eq own name) refl
 gets items name (Delete own stamp ∷ more) = at_note items name own stamp (Delete own stamp) more refl (get_with own name (value_of items own) (map_by items more)) (gets items name more) (bytes_eq own name) refl
+gets items name (item ∷ more) = past items name item more refl refl (gets items name more)
 
 -- of a name without a note nothing is read
 unread : (items : List Record) (name : List ℕ) → NoNote name items → (found : Option Record) → NewestIs name items found → said_by items found ≡ None

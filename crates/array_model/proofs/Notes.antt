@@ -2,7 +2,7 @@
 use Rattle.std.proofs.Common.{◌≡◌, ℕ, ◌+◌, ◌<◌, ◌≤◌, Bool, true, false, cond, List, [], ◌∷◌, Option, Some, None, is_some, count_by, Decides, ◌⊎◌, inl, inr, refl, sym, ap, ◌∙◌, subst, bytes_eq, arith}
 use Rattle.std.proofs.lemmas.Bool.{cases_lt}
 use Rattle.std.proofs.lemmas.Slice.Eq.{bytes_eq-Decides}
-use Rattle.array_model.specs.Record.{Record, Head, Ready, Part, Put, Delete, Cut, Digest, Snapshot, note_stamp}
+use Rattle.array_model.specs.Record.{Record, Part, Put, Delete, note_stamp}
 use Rattle.array_model.specs.Map.{newest, said_by, value_of, part_of}
 use Rattle.array_model.specs.Need.{IsWanted}
 use Rattle.array_model.proofs.Records.{Among, NewestIs, no_note, newest_is, the_newest, newest_is_note, no_newest}
@@ -75,12 +75,6 @@ module _ (uploads : List ℕ) (old new : List Record) (keeps : KeepsWanted uploa
 
   -- The newest note stays the newest, or is a delete with no other note of its name.
   newest_note : (note : Record) → newest name old ≡ Some note → (newest name new ≡ Some note) ⊎ IsLoneDelete note
-  newest_note Head was = let told = newest_is_note name old Head was in let e = told.1.1 in absurd (cc)
-  newest_note Ready was = let told = newest_is_note name old Ready was in let e = told.1.1 in absurd (cc)
-  newest_note (Part upload part payload) was = let told = newest_is_note name old (Part upload part payload) was in let e = told.1.1 in absurd (cc)
-  newest_note (Cut target kept) was = let told = newest_is_note name old (Cut target kept) was in let e = told.1.1 in absurd (cc)
-  newest_note (Digest part parts payload) was = let told = newest_is_note name old (Digest part parts payload) was in let e = told.1.1 in absurd (cc)
-  newest_note (Snapshot stamp part parts bytes payload) was = let told = newest_is_note name old (Snapshot stamp part parts bytes payload) was in let e = told.1.1 in absurd (cc)
   newest_note (Put own stamp upload parts bytes) was =
       let told = newest_is_note name old (Put own stamp upload parts bytes) was in
       let mine = put_named name own stamp upload parts bytes told.1.0 told.1.1 in
@@ -92,6 +86,7 @@ module _ (uploads : List ℕ) (old new : List Record) (keeps : KeepsWanted uploa
         | inl others ↦ inl (wanted_newest (Delete own stamp) (ap (λ n. newest n old) mine ∙ was, subst (λ n. 1 < count_by (is_note n) old) (sym mine) others) (newest name old) was (the_newest name old) (newest name new) (the_newest name new))
         | inr lone ↦ inr ((own, stamp, refl), lone)
       ]
+  newest_note note was = let told = newest_is_note name old note was in let e = told.1.1 in absurd (cc)
 
   -- A newest note was the newest.
   pub newest_was : (note : Record) → newest name new ≡ Some note → newest name old ≡ Some note

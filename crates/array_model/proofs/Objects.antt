@@ -1,7 +1,7 @@
 -- Which parts and objects records give.
 use Rattle.std.proofs.Common.{◌≡◌, ℕ, ◌+◌, List, [], ◌∷◌, Result, Option, Some, None, cond, inl, inr, refl, ap, ◌∙◌, zero, suc, eq-eqb}
 use Rattle.std.proofs.lemmas.Bool.{and_from}
-use Rattle.array_model.specs.Record.{Record, Head, Ready, Part, Put, Delete, Cut, Digest, Snapshot, payload_of}
+use Rattle.array_model.specs.Record.{Record, Part, Put, payload_of}
 use Rattle.array_model.specs.Map.{said_by, part_of, or_else, parts_from, object_by, joined}
 use Rattle.array_model.proofs.Records.{Among, payload_is_part}
 
@@ -17,15 +17,9 @@ parts_same items items' upload same part (suc more) =
 
 -- A note says the same where the parts of its upload are the same.
 pub said_same : (items items' : List Record) (note : Record) → ((own : List ℕ) (stamp upload parts bytes : ℕ) → note ≡ Put own stamp upload parts bytes → SameParts items items' upload) → said_by items' (Some note) ≡ said_by items (Some note)
-said_same items items' Head same = refl
-said_same items items' Ready same = refl
-said_same items items' (Part upload part payload) same = refl
-said_same items items' (Delete own stamp) same = refl
-said_same items items' (Cut target kept) same = refl
-said_same items items' (Digest part parts payload) same = refl
-said_same items items' (Snapshot stamp part parts bytes payload) same = refl
 said_same items items' (Put own stamp upload parts bytes) same =
     ap (λ (r : Result (List ℕ) ℕ). Some (object_by upload parts bytes r)) (parts_same items items' upload (same own stamp upload parts bytes refl) 0 parts)
+said_same items items' note same = refl
 
 -- the payload of a part
 pub payload_here : (upload part : ℕ) (payload : List ℕ) → payload_of upload part (Part upload part payload) ≡ Some payload

@@ -2,7 +2,7 @@
 use Rattle.std.proofs.Common.{◌≡◌, slice_index_or, ℕ, ◌<◌, ◌≤◌, min, true, false, ◌==◌, List, [], ◌∷◌, ◌++◌, length, Option, Some, None, Contains, ◌⊎◌, inl, inr, refl, sym, ap, ◌∙◌, subst, zero, suc, ◌&&◌, nat_lt, ltb-true, ltb-false, arith, cond}
 use Rattle.std.proofs.Math.Decide.{ℕ_discrete}
 use Rattle.std.proofs.lemmas.Bool.{eqb-true, cases_lt, and_parts, eq-eqb}
-use Rattle.array_model.specs.Record.{Record, Record-discrete, Head, Ready, Part, Put, Delete, Cut, Digest, Snapshot, note_stamp, payload_of, kept_of}
+use Rattle.array_model.specs.Record.{Record, Record-discrete, Part, Cut, note_stamp, payload_of, kept_of}
 use Rattle.array_model.specs.Sets.{lesser, least_kept}
 use Rattle.array_model.specs.SetLaws.{IsGreatestNote, NewestIsGreatest, NoNewestNoNote}
 use Rattle.array_model.specs.Map.{newest, later_note}
@@ -60,18 +60,12 @@ among_rest (y ∷ first) rest x found = inr (among_rest first rest x found)
 
 -- A cut that keeps so many of a target
 pub kept_is_cut : (target kept : ℕ) (item : Record) → kept_of target item ≡ Some kept → item ≡ Cut target kept
-kept_is_cut target kept Head is = cc
-kept_is_cut target kept Ready is = cc
-kept_is_cut target kept (Part upload part payload) is = cc
-kept_is_cut target kept (Put name stamp upload parts bytes) is = cc
-kept_is_cut target kept (Delete name stamp) is = cc
 kept_is_cut target kept (Cut other n) is =
     elim (other == target) as (λ b. other == target ≡ b → cond b (Some n) None ≡ Some kept → Cut other n ≡ Cut target kept) [
       | true ↦ λ same e. let same' = eqb-true other target same in cc
       | false ↦ λ differs e. cc
     ] refl is
-kept_is_cut target kept (Digest part parts payload) is = cc
-kept_is_cut target kept (Snapshot stamp part parts bytes payload) is = cc
+kept_is_cut target kept item is = cc
 
 -- and what it keeps
 pub cut_keeps : (target kept : ℕ) → kept_of target (Cut target kept) ≡ Some kept
@@ -120,8 +114,6 @@ least_is_there target least (item ∷ items) is = elim (lesser_is_one (kept_of t
 
 -- A payload of a part of an upload is that of the part.
 pub payload_is_part : (upload part : ℕ) (payload : List ℕ) (item : Record) → payload_of upload part item ≡ Some payload → item ≡ Part upload part payload
-payload_is_part upload part payload Head is = cc
-payload_is_part upload part payload Ready is = cc
 payload_is_part upload part payload (Part u i bytes) is =
     elim ((u == upload) && (i == part)) as (λ b. ((u == upload) && (i == part)) ≡ b → cond b (Some bytes) None ≡ Some payload → Part u i bytes ≡ Part upload part payload) [
       | true ↦ λ same e.
@@ -131,11 +123,7 @@ payload_is_part upload part payload (Part u i bytes) is =
           cc
       | false ↦ λ differs e. cc
     ] refl is
-payload_is_part upload part payload (Put name stamp u parts bytes) is = cc
-payload_is_part upload part payload (Delete name stamp) is = cc
-payload_is_part upload part payload (Cut target kept) is = cc
-payload_is_part upload part payload (Digest i parts bytes) is = cc
-payload_is_part upload part payload (Snapshot stamp i parts bytes p) is = cc
+payload_is_part upload part payload item is = cc
 
 -- a note of a name
 abbrev pub IsNoteOf : List ℕ → Record → Type 0
