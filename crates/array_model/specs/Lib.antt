@@ -3,3 +3,7 @@ pub mod Need
 pub mod Record
 pub mod SetLaws
 pub mod Sets
+pub mod Drives
+pub mod Payload
+pub mod Reading
+pub mod Enough
