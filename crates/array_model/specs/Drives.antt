@@ -1,5 +1,5 @@
 -- Which drives are there, and what their zones hold.
-use Rattle.std.specs.Prelude.{◌≢◌, ◌⊎◌, ℕ, ◌+◌, ◌-◌, Bool, true, false, ◌&&◌, not, ◌==◌, nat_lt, List, [], ◌∷◌, map, filter, take, drop, Option, Some, None, is_none, is_some, Contains, if◌then◌else◌}
+use Rattle.std.specs.Prelude.{◌≢◌, ◌⊎◌, ℕ, ◌+◌, ◌-◌, Bool, false, ◌&&◌, not, ◌==◌, List, [], ◌∷◌, map, filter, take, drop, Option, Some, None, is_none, is_some, Contains, if◌then◌else◌}
 use Rattle.std.specs.List.{list_any, filter_map, flat_map, range_with_len}
 use Rattle.std.specs.Str.{bytes_eq}
 use Rattle.smore_base.specs.Geometry.{first_fault}
@@ -24,13 +24,17 @@ label_on shape held device =
     let l = label_at (drop 1 block) in
     if is_label_of_bay shape device l && bytes_eq block (label_block l) then Some l else None
 
--- A drive is present where it isn't away and begins with a label of this bay. The last device is the flash and no drive.
-abbrev pub is_present : Shape → Contents → List ℕ → ℕ → Bool
-is_present shape held away device = nat_lt (device + 1) shape.devices && not (list_any (λ d. d == device) away) && is_some (label_on shape held device)
-
--- the drives of a bay of this shape
+-- the drives of a bay of this shape: the last device is the flash, and no drive
 abbrev pub drives_of : Shape → List ℕ
 drives_of shape = range_with_len 0 (shape.devices - 1)
+
+-- the device is one of these
+abbrev pub is_among : List ℕ → ℕ → Bool
+is_among devices device = list_any (λ d. d == device) devices
+
+-- A drive is present where it isn't away and begins with a label of this bay.
+abbrev pub is_present : Shape → Contents → List ℕ → ℕ → Bool
+is_present shape held away drive = not (is_among away drive) && is_some (label_on shape held drive)
 
 -- the present drives, the lowest first
 abbrev pub present : Shape → Contents → List ℕ → List ℕ
@@ -66,15 +70,16 @@ bytes_at held place = held place.device place.zone
 abbrev pub records_at : Array → Contents → Place → List Marker
 records_at array held place = whole_records array (bytes_at held place)
 
--- the head of a place
+-- the first of these
 abbrev pub first_of : List Marker → Option Marker
 first_of [] = None
 first_of (m ∷ ms) = Some m
 
+-- the whole head of a place
 abbrev pub head_at : Array → Contents → Place → Option Marker
 head_at array held place = first_of (records_at array held place)
 
--- a whole head of this set and index stands there
+-- this is a head of the set and the index
 abbrev pub is_of : ℕ → ℕ → Option Marker → Bool
 is_of set index None = false
 is_of set index (Some head) = (head.set == set) && (head.index == index)

@@ -1,6 +1,6 @@
 -- The payload of a record, from k of its fragments. The fragments' columns are the values of one polynomial of degree below
 -- k at the points that are their indexes, and the first k fragments are the payload, padded with zeros.
-use Rattle.std.specs.Prelude.{ℕ, zero, suc, ◌+◌, ◌*◌, ◌==◌, List, [], ◌∷◌, length, map, take, drop, slice_index, bit_xor, if◌then◌else◌}
+use Rattle.std.specs.Prelude.{ℕ, zero, suc, ◌==◌, List, [], ◌∷◌, map, take, drop, slice_index, bit_xor, if◌then◌else◌}
 use Rattle.std.specs.List.{flat_map, range_with_len}
 use Rattle.std.specs.Int.{div_ceil}
 use Rattle.smore_base.specs.declared.limits.TheConstants.{CONTENT_BYTES}

@@ -1,6 +1,6 @@
 -- What is read of an array: from the bytes of its zones to a list of sets. Nothing above this page speaks of bytes.
-use Rattle.std.specs.Prelude.{ℕ, ◌+◌, ◌-◌, Bool, true, false, ◌&&◌, ◌||◌, not, ◌==◌, nat_lt, nat_le, List, [], ◌∷◌, ◌++◌, length, map, take, Option, Some, None, is_some, is_none, if◌then◌else◌}
-use Rattle.std.specs.List.{list_any, list_all, find, filter, filter_map, range_with_len}
+use Rattle.std.specs.Prelude.{ℕ, ◌+◌, ◌-◌, Bool, ◌==◌, nat_lt, List, [], ◌∷◌, length, map, take, Option, Some, None, if◌then◌else◌}
+use Rattle.std.specs.List.{list_all, find, filter_map, range_with_len}
 use Rattle.std.specs.Str.{bytes_eq}
 use Rattle.zone_bay.specs.Contents.{Shape, Contents}
 use Rattle.marker_format.specs.declared.kind.Kind.{Kind}
@@ -30,7 +30,7 @@ carries index (Some place) = Some (record { index = index; place = place })
 abbrev pub carrier_of : Array → Contents → List Place → ℕ → ℕ → Option Carrier
 carrier_of array held places set index = carries index (find (λ place. is_of set index (head_at array held place)) places)
 
--- how many fragments a record has
+-- how many fragments a record has, and so how many indexes a set
 abbrev pub fragments_of : Array → ℕ
 fragments_of array = array.geometry.k + array.geometry.p
 
@@ -60,6 +60,7 @@ common_of [] = []
 common_of (ms ∷ []) = ms
 common_of (ms ∷ more ∷ rest) = common ms (common_of (more ∷ rest))
 
+-- The agreed list of carriers is the longest prefix on which their whole records agree.
 abbrev pub agreed : Array → Contents → List Carrier → List Marker
 agreed array held carriers = common_of (map (λ carrier. records_at array held carrier.place) carriers)
 
@@ -98,25 +99,29 @@ records_from array held carriers block (m ∷ ms) =
 abbrev pub are_closed : Array → Contents → List Carrier → Bool
 are_closed array held carriers = list_all (λ carrier. has_foot array (bytes_at held carrier.place)) carriers
 
--- What is read of a set from these carriers, of which so many count.
-abbrev pub set_from : Array → Contents → ℕ → ℕ → List Carrier → ReadSet
-set_from array held set count carriers = record {
+-- What is read of a set from these carriers.
+abbrev pub set_from : Array → Contents → ℕ → List Carrier → ReadSet
+set_from array held set carriers = record {
   id = set;
-  carriers = count;
+  carriers = length carriers;
   records = records_from array held carriers 0 (agreed array held carriers);
   closed = are_closed array held carriers;
 }
 
+-- what is read of a set from its carriers among these places
 abbrev pub read_set : Array → Contents → List Place → ℕ → ReadSet
-read_set array held places set =
-    let carriers = carriers_of array held places set in
-    set_from array held set (length carriers) carriers
+read_set array held places set = set_from array held set (carriers_of array held places set)
+
+-- of how many of its indexes a set has no carrier
+abbrev pub missing : Array → ReadSet → ℕ
+missing array set = fragments_of array - set.carriers
 
 -- a number among rising ones, once
 abbrev pub with_id : ℕ → List ℕ → List ℕ
 with_id id [] = id ∷ []
 with_id id (other ∷ ids) = if nat_lt id other then id ∷ other ∷ ids else if id == other then other ∷ ids else other ∷ with_id id ids
 
+-- the number of the set of this head among rising ones, once
 abbrev pub with_head : Option Marker → List ℕ → List ℕ
 with_head None ids = ids
 with_head (Some head) ids = with_id head.set ids
@@ -131,3 +136,7 @@ abbrev pub reading : Array → Shape → Contents → List ℕ → List ReadSet
 reading array shape held drives =
     let places = places_on shape drives in
     map (read_set array held places) (ids_at array held places)
+
+-- What is read of an array: of all its drives that are present.
+abbrev pub read_of : Array → Shape → Contents → List ReadSet
+read_of array shape held = reading array shape held (present shape held [])
