@@ -14,3 +14,7 @@ pub mod CopiedSet
 pub mod CutOff
 pub mod DroppedSet
 pub mod Opening
+pub mod Carriers
+pub mod SameZones
+pub mod Agreed
+pub mod Fallen

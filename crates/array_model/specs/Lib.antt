@@ -7,3 +7,4 @@ pub mod Drives
 pub mod Payload
 pub mod Reading
 pub mod Enough
+pub mod ReadingLaws

@@ -40,13 +40,17 @@ carriers_of array held places set = filter_map (carrier_of array held places set
 
 -- ---- the agreed list
 
--- a marker as the carriers of a set have it alike: its index is left aside, and of a head the rebuilt mark
+-- a marker with its index left aside, and of a head the rebuilt mark
 abbrev pub aside : Marker → Marker
 aside m = record m { index = 0; part = if m.kind == code_of kinds.Head then 0 else m.part }
 
+-- what the carriers of a set have alike of a marker, in its bytes
+abbrev pub alike : Marker → List ℕ
+alike m = spelling_of (aside m)
+
 -- the same marker but for what is left aside
 abbrev pub agree : Marker → Marker → Bool
-agree a b = bytes_eq (spelling_of (aside a)) (spelling_of (aside b))
+agree a b = bytes_eq (alike a) (alike b)
 
 -- the longest prefix of the first list on which both agree
 abbrev pub common : List Marker → List Marker → List Marker

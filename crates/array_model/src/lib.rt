@@ -3,8 +3,13 @@
 #![tactic(auto)]
 
 mod laws;
+mod reading_laws;
 
 pub use laws::{
     copies_change_nothing, dropped_set_is_gone, map_is_what_is_read, newest_note_is_greatest,
     note_is_last, opening_fixes_what_was_read, records_without_note, unneeded_sets_may_go,
+};
+pub use reading_laws::{
+    agreed_is_longest, agreed_list_stays, carriers_stay, fallen_sets_say_nothing, sets_rise,
+    what_stays_is_read,
 };

@@ -1,0 +1,8 @@
+use Rattle.array_model.proofs.Carriers.{no_carrier_comes, carrier_stays}
+use Rattle.array_model.proofs.reading_laws.carriers_stay.Goals as goal
+
+pub returns-clause-none : goal.returns-clause-none
+returns-clause-none c = no_carrier_comes
+
+pub returns-clause-stays : goal.returns-clause-stays
+returns-clause-stays c = carrier_stays

@@ -1,0 +1,101 @@
+-- Laws of the reading of an array: what it reads where drives leave, where zones grow or are cut, and without the zones of a
+-- set that doesn't stand.
+use Rattle.std.specs.Prelude.{◌≡◌, ℕ, ◌*◌, ◌<◌, ◌≤◌, ◌==◌, Bool, false, List, [], ◌++◌, length, map, take, Option, Some, None, Contains, if◌then◌else◌}
+use Rattle.std.specs.List.{AllByRecursion, list_any}
+use Rattle.smore_base.specs.declared.limits.TheConstants.{BLOCK_BYTES}
+use Rattle.zone_bay.specs.Contents.{Shape, Contents, Extends}
+use Rattle.zone_bay.specs.Images.{without_each}
+use Rattle.marker_format.specs.declared.marker.Marker.{Marker}
+use Rattle.marker_format.specs.Zone.{Array, IsPrefix, begun, end_from, is_rebuilt}
+use Rattle.array_model.specs.Drives.{is_among, present, places_on, bytes_at, records_at, head_at}
+use Rattle.array_model.specs.Reading.{Carrier, carrier_of, alike, agreed, read_set, reading, read_of}
+use Rattle.array_model.specs.Record.{is_ready}
+use Rattle.array_model.specs.Sets.{AreRising, stands, records_of}
+use Rattle.array_model.specs.Enough.{outside}
+
+-- ---- drives that leave
+
+-- Where drives leave, an index that had no carrier gets none,
+abbrev pub NoCarrierComes : Type 0
+NoCarrierComes = (array : Array) (shape : Shape) (held : Contents) (drives leaving : List ℕ) (set index : ℕ)
+    → carrier_of array held (places_on shape drives) set index ≡ None
+    → carrier_of array held (places_on shape (outside leaving drives)) set index ≡ None
+
+-- and a carrier on a drive that stays is the carrier still.
+abbrev pub CarrierStays : Type 0
+CarrierStays = (array : Array) (shape : Shape) (held : Contents) (drives leaving : List ℕ) (set index : ℕ) (carrier : Carrier)
+    → carrier_of array held (places_on shape drives) set index ≡ Some carrier → is_among leaving carrier.place.device ≡ false
+    → carrier_of array held (places_on shape (outside leaving drives)) set index ≡ Some carrier
+
+-- Where devices left, the drives that are present are those that were and stay,
+abbrev pub PresentStay : Type 0
+PresentStay = (shape : Shape) (held : Contents) (leaving : List ℕ) → present shape (without_each leaving held) [] ≡ outside leaving (present shape held [])
+
+-- and what is read is what those that stay held before.
+abbrev pub LeftIsHeldBefore : Type 0
+LeftIsHeldBefore = (array : Array) (shape : Shape) (held : Contents) (leaving : List ℕ)
+    → read_of array shape (without_each leaving held) ≡ reading array shape held (outside leaving (present shape held []))
+
+-- The sets that are read rise by number, from 1.
+abbrev pub ReadingRises : Type 0
+ReadingRises = (array : Array) (shape : Shape) (held : Contents) (drives : List ℕ) → AreRising (reading array shape held drives)
+
+-- ---- the agreed list
+
+-- the first markers of a list, but for what is left aside
+abbrev pub IsPrefixAlike : List Marker → List Marker → Type 0
+IsPrefixAlike some all = (rest : List (List ℕ)) × (map alike all ≡ map alike some ++ rest)
+
+-- Each carrier has the agreed list,
+abbrev pub AgreedIsHeld : Type 0
+AgreedIsHeld = (array : Array) (held : Contents) (carriers : List Carrier) (carrier : Carrier) → Contains carriers carrier
+    → IsPrefixAlike (agreed array held carriers) (records_at array held carrier.place)
+
+-- and no list that each of them has is longer.
+abbrev pub AgreedIsLongest : Type 0
+AgreedIsLongest = (array : Array) (held : Contents) (carriers : List Carrier) (ms : List Marker) → 0 < length carriers
+    → ((carrier : Carrier) → Contains carriers carrier → IsPrefixAlike ms (records_at array held carrier.place))
+    → IsPrefixAlike ms (agreed array held carriers)
+
+-- none of these carriers is a rebuilt zone
+abbrev pub AreFirst : Array → Contents → List Carrier → Type 0
+AreFirst array held carriers = AllByRecursion (λ carrier. is_rebuilt (begun array (bytes_at held carrier.place)) ≡ false) carriers
+
+-- More bytes behind those of first zones leave the agreed list, and may add records to it, which each carrier has.
+abbrev pub AgreedGrows : Type 0
+AgreedGrows = (array : Array) (held more : Contents) (carriers : List Carrier) → AreFirst array held carriers → Extends held more
+    → IsPrefix (agreed array held carriers) (agreed array more carriers)
+
+-- the zone is cut, if at all, behind its whole records
+abbrev pub IsCutBehind : Array → List ℕ → List ℕ → Type 0
+IsCutBehind array bytes cut = (n : ℕ) × (BLOCK_BYTES * end_from 0 (begun array bytes) ≤ n) × (cut ≡ take n bytes)
+
+-- Cuts of first zones behind their whole records leave the agreed list.
+abbrev pub AgreedStays : Type 0
+AgreedStays = (array : Array) (held cut : Contents) (carriers : List Carrier) → AreFirst array held carriers
+    → AllByRecursion (λ carrier. IsCutBehind array (bytes_at held carrier.place) (bytes_at cut carrier.place)) carriers
+    → agreed array cut carriers ≡ agreed array held carriers
+
+-- ---- a set that doesn't stand
+
+-- this is a head of the set
+abbrev pub is_of_set : ℕ → Option Marker → Bool
+is_of_set set None = false
+is_of_set set (Some head) = head.set == set
+
+-- the zones of the set hold nothing
+abbrev pub without_set : Array → ℕ → Contents → Contents
+without_set array set held device zone =
+    if is_of_set set (head_at array held (record { device = device; zone = zone })) then [] else held device zone
+
+-- A set that doesn't stand says nothing: with its zones and without them the same records are valid,
+abbrev pub FallenSaysNothing : Type 0
+FallenSaysNothing = (k : ℕ) (array : Array) (shape : Shape) (held : Contents) (drives : List ℕ) (set : ℕ)
+    → stands k (read_set array held (places_on shape drives) set) ≡ false
+    → records_of k (reading array shape (without_set array set held) drives) ≡ records_of k (reading array shape held drives)
+
+-- and so it is with a set without a ready record.
+abbrev pub UnreadySaysNothing : Type 0
+UnreadySaysNothing = (k : ℕ) (array : Array) (shape : Shape) (held : Contents) (drives : List ℕ) (set : ℕ)
+    → list_any is_ready (read_set array held (places_on shape drives) set).records ≡ false
+    → records_of k (reading array shape (without_set array set held) drives) ≡ records_of k (reading array shape held drives)

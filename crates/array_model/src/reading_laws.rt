@@ -1,0 +1,38 @@
+//! Laws of the reading of an array. These functions do nothing: their contracts are the theorems.
+
+ghost use Rattle.array_model.specs.ReadingLaws.{NoCarrierComes, CarrierStays, PresentStay, LeftIsHeldBefore, ReadingRises, AgreedIsHeld, AgreedIsLongest, AgreedGrows, AgreedStays, FallenSaysNothing, UnreadySaysNothing};
+
+/// Where drives leave, no index gets a carrier that had none, and each carrier on a drive that stays is the carrier still.
+pub fn carriers_stay()
+    ensures none { NoCarrierComes }
+    ensures stays { CarrierStays }
+{}
+
+/// What is read where devices left is what the drives that stay held before.
+pub fn what_stays_is_read()
+    ensures present { PresentStay }
+    ensures read { LeftIsHeldBefore }
+{}
+
+/// The sets that are read rise by number.
+pub fn sets_rise()
+    ensures { ReadingRises }
+{}
+
+/// The agreed list is the longest that each carrier begins with, but for the index and the rebuilt mark.
+pub fn agreed_is_longest()
+    ensures held { AgreedIsHeld }
+    ensures longest { AgreedIsLongest }
+{}
+
+/// More bytes at the end of first zones leave the agreed list or make it longer, and cuts behind whole records leave it.
+pub fn agreed_list_stays()
+    ensures grows { AgreedGrows }
+    ensures cut { AgreedStays }
+{}
+
+/// The same is valid with the zones of a set that doesn't stand and without them. A set without a ready record is such a one.
+pub fn fallen_sets_say_nothing()
+    ensures fallen { FallenSaysNothing }
+    ensures unready { UnreadySaysNothing }
+{}
