@@ -9,8 +9,8 @@ use Rattle.marker_format.specs.declared.marker.Marker.{Marker}
 use Rattle.marker_format.specs.Zone.{Array, IsPrefix, begun, is_rebuilt, whole_records}
 use Rattle.marker_format.proofs.ZoneLaws.{Begin-begun, begun-longest, begun-cut, begun-more, Begin-cut, whole_records-first}
 use Rattle.array_model.specs.Drives.{bytes_at, records_at}
-use Rattle.array_model.specs.Reading.{Carrier, alike, agree, common, common_of, agreed}
-use Rattle.array_model.specs.ReadingLaws.{IsPrefixAlike, AreFirst, IsCutBehind, AgreedIsHeld, AgreedIsLongest, AgreedGrows, AgreedStays}
+use Rattle.array_model.specs.Reading.{Carrier, alike, agree, common, common_of, IsPrefixAlike, agreed}
+use Rattle.array_model.specs.ReadingLaws.{AreFirst, IsCutBehind, AgreedIsHeld, AgreedIsLongest, AgreedGrows, AgreedStays}
 use Rattle.array_model.proofs.Records.{Among, among_from_contains, contains_from_among}
 use Rattle.array_model.proofs.SameZones.{map-same}
 

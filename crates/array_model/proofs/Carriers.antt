@@ -4,12 +4,14 @@ use Rattle.std.specs.Prelude.{◌&&◌, ◌||◌, not, filter, is_some, take, dr
 use Rattle.std.specs.List.{AllByRecursion, find, range_with_len}
 use Rattle.std.specs.Option.{option_or}
 use Rattle.std.specs.Str.{bytes_eq}
-use Rattle.std.proofs.lemmas.Bool.{cases_eq, and_right, eq-eqb, ne_eqb}
+use Rattle.std.proofs.lemmas.Bool.{and_from, cases_eq, and_right, eq-eqb, ne_eqb}
 use Rattle.std.proofs.lemmas.List.Folds.{find-append}
 use Rattle.std.proofs.lemmas.List.Elements.{filter_agree}
+use Rattle.std.proofs.lemmas.Slice.Eq.{bytes_eq-Decides}
 use Rattle.zone_bay.specs.Contents.{Shape, Contents, blanked}
 use Rattle.zone_bay.specs.Images.{without_each}
 use Rattle.marker_format.specs.declared.label.Label.{Label}
+use Rattle.marker_format.specs.declared.label.TheConstants.{LABEL_BYTES}
 use Rattle.marker_format.specs.Label.{label_at}
 use Rattle.marker_format.specs.Block.{block_of, label_block}
 use Rattle.array_model.specs.Drives.{Place, is_label_of_bay, label_on, drives_of, is_among, is_present, places_on, is_of, head_at}
@@ -127,16 +129,36 @@ held_without (first ∷ leaving) held device zone =
     at_one false b bytes = refl
 
 -- what the first bytes of a device say
-label_in : Shape → ℕ → List ℕ → Option Label
+pub label_in : Shape → ℕ → List ℕ → Option Label
 label_in shape device block =
-    let l = label_at (drop 1 block) in
+    let l = label_at (take LABEL_BYTES (drop 1 block)) in
     cond (is_label_of_bay shape device l && bytes_eq block (label_block l)) (Some l) None
 
-label_on-is : (shape : Shape) (held : Contents) (device : ℕ) → label_on shape held device ≡ label_in shape device (take 512 (held device 0))
+pub label_on-is : (shape : Shape) (held : Contents) (device : ℕ) → label_on shape held device ≡ label_in shape device (take 512 (held device 0))
 unfolding label_on label_in
 label_on-is shape held device = refl
 
-no_label : (shape : Shape) (device : ℕ) → label_in shape device [] ≡ None
+-- what is read there, where anything is,
+pub label_in-is : (shape : Shape) (device : ℕ) (block : List ℕ) (l : Label) → label_in shape device block ≡ Some l → l ≡ label_at (take LABEL_BYTES (drop 1 block))
+unfolding label_in
+label_in-is shape device block l e = read (is_label_of_bay shape device own && bytes_eq block (label_block own)) own e
+  where
+    own : Label
+    own = label_at (take LABEL_BYTES (drop 1 block))
+
+    read : (b : Bool) (own : Label) → cond b (Some own) None ≡ Some l → l ≡ own
+    read true own e = cc
+    read false own e = absurd cc
+
+-- and that it is read,
+pub label_in-own : (shape : Shape) (device : ℕ) (block : List ℕ) (l : Label) → label_at (take LABEL_BYTES (drop 1 block)) ≡ l → is_label_of_bay shape device l ≡ true → block ≡ label_block l → label_in shape device block ≡ Some l
+unfolding label_in
+label_in-own shape device block l read ours is =
+    ap (λ (x : Label). cond (is_label_of_bay shape device x && bytes_eq block (label_block x)) (Some x) None) read
+    ∙ ap (λ b. cond b (Some l) None) (and_from (is_label_of_bay shape device l) (bytes_eq block (label_block l)) ours ((bytes_eq-Decides block (label_block l)).1 is))
+
+-- and in nothing none.
+pub no_label : (shape : Shape) (device : ℕ) → label_in shape device [] ≡ None
 unfolding label_in block_of
 no_label shape device = let l = label_at [] in ap (λ b. cond b (Some l) None) (and_right (is_label_of_bay shape device l) (bytes_eq [] (label_block l)) refl)
 

@@ -67,7 +67,7 @@ valid_without k f g keep (id ∷ ids) same fell = at_one (keep id) refl (valid_w
 
 -- ---- zones without those of a set
 
-nothing_whole : (array : Array) → whole_records array [] ≡ []
+pub nothing_whole : (array : Array) → whole_records array [] ≡ []
 unfolding whole_records begun records_from
 nothing_whole array = refl
 

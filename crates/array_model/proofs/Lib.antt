@@ -18,3 +18,4 @@ pub mod Carriers
 pub mod SameZones
 pub mod Agreed
 pub mod Fallen
+pub mod Formatted

@@ -6,6 +6,7 @@ use Rattle.smore_base.specs.Geometry.{first_fault}
 use Rattle.smore_base.specs.declared.limits.TheConstants.{BLOCK_BYTES}
 use Rattle.zone_bay.specs.Contents.{Shape, Contents}
 use Rattle.marker_format.specs.declared.label.Label.{Label}
+use Rattle.marker_format.specs.declared.label.TheConstants.{LABEL_BYTES}
 use Rattle.marker_format.specs.declared.marker.Marker.{Marker}
 use Rattle.marker_format.specs.Label.{label_at}
 use Rattle.marker_format.specs.Block.{label_block}
@@ -21,7 +22,7 @@ is_label_of_bay shape device l =
 unfoldable pub label_on : Shape → Contents → ℕ → Option Label
 label_on shape held device =
     let block = take BLOCK_BYTES (held device 0) in
-    let l = label_at (drop 1 block) in
+    let l = label_at (take LABEL_BYTES (drop 1 block)) in
     if is_label_of_bay shape device l && bytes_eq block (label_block l) then Some l else None
 
 -- the drives of a bay of this shape: the last device is the flash, and no drive

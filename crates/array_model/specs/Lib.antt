@@ -7,4 +7,5 @@ pub mod Drives
 pub mod Payload
 pub mod Reading
 pub mod Enough
+pub mod Kept
 pub mod ReadingLaws

@@ -1,10 +1,11 @@
 -- The payload of a record, from k of its fragments. The fragments' columns are the values of one polynomial of degree below
 -- k at the points that are their indexes, and the first k fragments are the payload, padded with zeros.
-use Rattle.std.specs.Prelude.{ℕ, zero, suc, ◌==◌, List, [], ◌∷◌, map, take, drop, slice_index, bit_xor, if◌then◌else◌}
-use Rattle.std.specs.List.{flat_map, range_with_len}
+use Rattle.std.specs.Prelude.{◌≡◌, ◌*◌, ◌-◌, ◌<◌, ◌++◌, replicate, slice_index_or, ℕ, zero, suc, ◌==◌, List, [], ◌∷◌, length, map, take, drop, slice_index, bit_xor, if◌then◌else◌}
+use Rattle.std.specs.List.{concat, flat_map, range_with_len}
 use Rattle.std.specs.Int.{div_ceil}
 use Rattle.smore_base.specs.declared.limits.TheConstants.{CONTENT_BYTES}
 use Rattle.gf_field.specs.Product.{product}
+use Rattle.gf_field.specs.Polynomial.{IsCodeword}
 use Rattle.marker_format.specs.Zone.{block_at}
 
 -- a to the power n, in the field of bytes
@@ -63,3 +64,20 @@ content_at zone block = drop 1 (block_at zone block)
 -- the fragment of so many bytes that lies in the blocks from this one on
 abbrev pub fragment_at : List ℕ → ℕ → ℕ → List ℕ
 fragment_at zone block bytes = take bytes (flat_map (content_at zone) (range_with_len block (div_ceil bytes CONTENT_BYTES)))
+
+-- ---- codes
+
+-- the fragment of this index
+abbrev pub fragment_of : List (List ℕ) → ℕ → List ℕ
+fragment_of fragments index = slice_index_or fragments index []
+
+-- n lists of so many bytes of which each column is a codeword
+pub record IsCode (k n bytes : ℕ) (fragments : List (List ℕ)) : Type 0 where
+  pub count : length fragments ≡ n
+  pub lengths : (i : ℕ) → i < n → length (fragment_of fragments i) ≡ bytes
+  pub columns : (c : ℕ) → c < bytes → IsCodeword k n (map (λ fragment. slice_index fragment c) fragments)
+
+-- The n fragments of a payload: a code of the least length, of which the first k are the payload with zeros behind it.
+pub record AreFragments (k n : ℕ) (payload : List ℕ) (fragments : List (List ℕ)) : Type 0 where
+  pub code : IsCode k n (div_ceil (length payload) k) fragments
+  pub source : concat (take k fragments) ≡ payload ++ replicate (k * div_ceil (length payload) k - length payload) 0

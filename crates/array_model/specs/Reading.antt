@@ -1,5 +1,5 @@
 -- What is read of an array: from the bytes of its zones to a list of sets. Nothing above this page speaks of bytes.
-use Rattle.std.specs.Prelude.{ℕ, ◌+◌, ◌-◌, Bool, ◌==◌, nat_lt, List, [], ◌∷◌, length, map, take, Option, Some, None, if◌then◌else◌}
+use Rattle.std.specs.Prelude.{◌≡◌, ◌++◌, ℕ, ◌+◌, ◌-◌, Bool, ◌==◌, nat_lt, List, [], ◌∷◌, length, map, take, Option, Some, None, if◌then◌else◌}
 use Rattle.std.specs.List.{list_all, find, filter_map, range_with_len}
 use Rattle.std.specs.Str.{bytes_eq}
 use Rattle.zone_bay.specs.Contents.{Shape, Contents}
@@ -51,6 +51,10 @@ alike m = spelling_of (aside m)
 -- the same marker but for what is left aside
 abbrev pub agree : Marker → Marker → Bool
 agree a b = bytes_eq (alike a) (alike b)
+
+-- the first markers of a list, but for what is left aside
+abbrev pub IsPrefixAlike : List Marker → List Marker → Type 0
+IsPrefixAlike some all = (rest : List (List ℕ)) × (map alike all ≡ map alike some ++ rest)
 
 -- the longest prefix of the first list on which both agree
 abbrev pub common : List Marker → List Marker → List Marker

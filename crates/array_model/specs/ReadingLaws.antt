@@ -1,17 +1,20 @@
 -- Laws of the reading of an array: what it reads where drives leave, where zones grow or are cut, and without the zones of a
 -- set that doesn't stand.
-use Rattle.std.specs.Prelude.{◌≡◌, ℕ, ◌*◌, ◌<◌, ◌≤◌, ◌==◌, Bool, false, List, [], ◌++◌, length, map, take, Option, Some, None, Contains, if◌then◌else◌}
+use Rattle.std.specs.Prelude.{◌≡◌, ℕ, ◌*◌, ◌<◌, ◌≤◌, ◌==◌, Bool, false, List, [], length, take, Option, Some, None, Contains, if◌then◌else◌}
 use Rattle.std.specs.List.{AllByRecursion, list_any}
 use Rattle.smore_base.specs.declared.limits.TheConstants.{BLOCK_BYTES}
 use Rattle.zone_bay.specs.Contents.{Shape, Contents, Extends}
 use Rattle.zone_bay.specs.Images.{without_each}
 use Rattle.marker_format.specs.declared.marker.Marker.{Marker}
 use Rattle.marker_format.specs.Zone.{Array, IsPrefix, begun, end_from, is_rebuilt}
-use Rattle.array_model.specs.Drives.{is_among, present, places_on, bytes_at, records_at, head_at}
-use Rattle.array_model.specs.Reading.{Carrier, carrier_of, alike, agreed, read_set, reading, read_of}
+use Rattle.array_model.specs.Drives.{is_among, drives_of, present, places_on, bytes_at, records_at, head_at}
+use Rattle.array_model.specs.Reading.{Carrier, carrier_of, IsPrefixAlike, agreed, read_set, reading, read_of}
 use Rattle.array_model.specs.Record.{is_ready}
 use Rattle.array_model.specs.Sets.{AreRising, stands, records_of}
-use Rattle.array_model.specs.Enough.{outside}
+use Rattle.array_model.specs.Enough.{outside, IsPossibleMap}
+use Rattle.array_model.specs.Kept.{IsKept, IsFormatted}
+use Rattle.smore_base.specs.Objects.{Map}
+use Rattle.std.specs.FinMap as finmap
 
 -- ---- drives that leave
 
@@ -41,10 +44,6 @@ abbrev pub ReadingRises : Type 0
 ReadingRises = (array : Array) (shape : Shape) (held : Contents) (drives : List ℕ) → AreRising (reading array shape held drives)
 
 -- ---- the agreed list
-
--- the first markers of a list, but for what is left aside
-abbrev pub IsPrefixAlike : List Marker → List Marker → Type 0
-IsPrefixAlike some all = (rest : List (List ℕ)) × (map alike all ≡ map alike some ++ rest)
 
 -- Each carrier has the agreed list,
 abbrev pub AgreedIsHeld : Type 0
@@ -99,3 +98,18 @@ abbrev pub UnreadySaysNothing : Type 0
 UnreadySaysNothing = (k : ℕ) (array : Array) (shape : Shape) (held : Contents) (drives : List ℕ) (set : ℕ)
     → list_any is_ready (read_set array held (places_on shape drives) set).records ≡ false
     → records_of k (reading array shape (without_set array set held) drives) ≡ records_of k (reading array shape held drives)
+
+-- ---- a new array
+
+-- In a freshly formatted array each drive is present,
+abbrev pub FormattedIsPresent : Type 0
+FormattedIsPresent = (array : Array) (shape : Shape) (held : Contents) → IsFormatted array shape held → present shape held [] ≡ drives_of shape
+
+-- it is kept,
+abbrev pub FormattedIsKept : Type 0
+FormattedIsKept = (array : Array) (shape : Shape) (held : Contents) → IsFormatted array shape held → IsKept array shape held
+
+-- and its one possible map is the empty one.
+abbrev pub FormattedIsEmpty : Type 0
+FormattedIsEmpty = (array : Array) (shape : Shape) (held : Contents) (objects : Map) → IsFormatted array shape held
+    → IsPossibleMap array shape held objects → objects ≡ finmap.empty

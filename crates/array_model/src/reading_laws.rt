@@ -1,6 +1,6 @@
 //! Laws of the reading of an array. These functions do nothing: their contracts are the theorems.
 
-ghost use Rattle.array_model.specs.ReadingLaws.{NoCarrierComes, CarrierStays, PresentStay, LeftIsHeldBefore, ReadingRises, AgreedIsHeld, AgreedIsLongest, AgreedGrows, AgreedStays, FallenSaysNothing, UnreadySaysNothing};
+ghost use Rattle.array_model.specs.ReadingLaws.{NoCarrierComes, CarrierStays, PresentStay, LeftIsHeldBefore, ReadingRises, AgreedIsHeld, AgreedIsLongest, AgreedGrows, AgreedStays, FallenSaysNothing, UnreadySaysNothing, FormattedIsPresent, FormattedIsKept, FormattedIsEmpty};
 
 /// Where drives leave, no index gets a carrier that had none, and each carrier on a drive that stays is the carrier still.
 pub fn carriers_stay()
@@ -35,4 +35,11 @@ pub fn agreed_list_stays()
 pub fn fallen_sets_say_nothing()
     ensures fallen { FallenSaysNothing }
     ensures unready { UnreadySaysNothing }
+{}
+
+/// A freshly formatted array has all its drives, is kept, and has the empty map in all that may remain of it.
+pub fn formatted_arrays_are_kept()
+    ensures present { FormattedIsPresent }
+    ensures kept { FormattedIsKept }
+    ensures empty { FormattedIsEmpty }
 {}
