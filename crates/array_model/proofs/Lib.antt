@@ -19,3 +19,4 @@ pub mod SameZones
 pub mod Agreed
 pub mod Fallen
 pub mod Formatted
+pub mod Payloads

@@ -1,7 +1,7 @@
--- The payload of a record, from k of its fragments. The fragments' columns are the values of one polynomial of degree below
--- k at the points that are their indexes, and the first k fragments are the payload, padded with zeros.
-use Rattle.std.specs.Prelude.{◌≡◌, ◌*◌, ◌-◌, ◌<◌, ◌++◌, replicate, slice_index_or, ℕ, zero, suc, ◌==◌, List, [], ◌∷◌, length, map, take, drop, slice_index, bit_xor, if◌then◌else◌}
-use Rattle.std.specs.List.{concat, flat_map, range_with_len}
+-- The payload of a record, from k of its fragments. The bytes of the fragments in each column are the values of one polynomial
+-- of degree below k at the points that are their indexes, and the first k fragments are the payload, padded with zeros.
+use Rattle.std.specs.Prelude.{◌≡◌, ◌*◌, ◌-◌, ◌<◌, ◌++◌, replicate, slice_index_or, ℕ, zero, suc, ◌==◌, List, [], ◌∷◌, length, map, take, drop, slice_index, bit_xor, nat_eq, if◌then◌else◌}
+use Rattle.std.specs.List.{AllByRecursion, IsDistinct, concat, flat_map, range_with_len}
 use Rattle.std.specs.Int.{div_ceil}
 use Rattle.smore_base.specs.declared.limits.TheConstants.{CONTENT_BYTES}
 use Rattle.gf_field.specs.Product.{product}
@@ -17,41 +17,33 @@ power a (suc n) = product a (power a n)
 abbrev pub inverse : ℕ → ℕ
 inverse a = power a 254
 
--- the product of x less m over the points m other than this one; less is the sum here
-abbrev pub differences : List ℕ → ℕ → ℕ → ℕ
-differences [] own x = 1
-differences (m ∷ points) own x = if own == m then differences points own x else product (bit_xor x m) (differences points own x)
+-- what values have left beside the one at this point: the value less that one, over the point less this one
+abbrev pub beside : ℕ → (ℕ → ℕ) → ℕ → ℕ
+beside first value point = product (bit_xor (value point) (value first)) (inverse (bit_xor point first))
 
--- a value at a point
-pub record Known : Type 0 where
-  pub point : ℕ
-  pub value : ℕ
-
-abbrev pub points_of : List Known → List ℕ
-points_of known = map (λ it. it.point) known
-
--- the sum over these, of which all the points are
-abbrev pub sum_over : List ℕ → List Known → ℕ → ℕ
-sum_over points [] x = 0
-sum_over points (it ∷ known) x =
-    bit_xor (product it.value (product (differences points it.point x) (inverse (differences points it.point it.point)))) (sum_over points known x)
-
--- the value at x of the polynomial of degree below their number that has the known values
-abbrev pub interpolated : List Known → ℕ → ℕ
-interpolated known x = sum_over (points_of known) known x
+-- The value at x of the polynomial of degree below the number of these points that has these values at them. It is the value
+-- at the first point, and x less that point times what the polynomial through the others' values beside it has at x.
+abbrev pub interpolated : List ℕ → (ℕ → ℕ) → ℕ → ℕ
+interpolated [] value x = 0
+interpolated (first ∷ points) value x = bit_xor (value first) (product (bit_xor x first) (interpolated points (beside first value) x))
 
 -- a fragment of this index
 pub record Fragment : Type 0 where
   pub index : ℕ
   pub bytes : List ℕ
 
--- the byte of each fragment in this column
-abbrev pub column : List Fragment → ℕ → List Known
-column fragments c = map (λ fragment. record { point = fragment.index; value = slice_index fragment.bytes c }) fragments
+-- the indexes of fragments
+abbrev pub indexes_of : List Fragment → List ℕ
+indexes_of given = map (λ fragment. fragment.index) given
+
+-- byte c of the given fragment of an index
+abbrev pub byte_of : List Fragment → ℕ → ℕ → ℕ
+byte_of [] c index = 0
+byte_of (fragment ∷ given) c index = if fragment.index == index then slice_index fragment.bytes c else byte_of given c index
 
 -- the fragment of an index, of so many bytes, from the given ones
 abbrev pub fragment_from : List Fragment → ℕ → ℕ → List ℕ
-fragment_from given bytes index = map (λ c. interpolated (column given c) index) (range_with_len 0 bytes)
+fragment_from given bytes index = map (λ c. interpolated (indexes_of given) (byte_of given c) index) (range_with_len 0 bytes)
 
 -- the payload of so many bytes, from k given fragments
 unfoldable pub payload_from : ℕ → List Fragment → ℕ → List ℕ
@@ -81,3 +73,9 @@ pub record IsCode (k n bytes : ℕ) (fragments : List (List ℕ)) : Type 0 where
 pub record AreFragments (k n : ℕ) (payload : List ℕ) (fragments : List (List ℕ)) : Type 0 where
   pub code : IsCode k n (div_ceil (length payload) k) fragments
   pub source : concat (take k fragments) ≡ payload ++ replicate (k * div_ceil (length payload) k - length payload) 0
+
+-- k distinct ones of a code's n fragments
+pub record AreSome (k n : ℕ) (fragments : List (List ℕ)) (given : List Fragment) : Type 0 where
+  pub count : length given ≡ k
+  pub distinct : IsDistinct nat_eq (indexes_of given)
+  pub each : AllByRecursion (λ fragment. (fragment.index < n) × (fragment.bytes ≡ fragment_of fragments fragment.index)) given

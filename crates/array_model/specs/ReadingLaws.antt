@@ -7,6 +7,7 @@ use Rattle.zone_bay.specs.Contents.{Shape, Contents, Extends}
 use Rattle.zone_bay.specs.Images.{without_each}
 use Rattle.marker_format.specs.declared.marker.Marker.{Marker}
 use Rattle.marker_format.specs.Zone.{Array, IsPrefix, begun, end_from, is_rebuilt}
+use Rattle.array_model.specs.Payload.{Fragment, payload_from, AreFragments, AreSome}
 use Rattle.array_model.specs.Drives.{is_among, drives_of, present, places_on, bytes_at, records_at, head_at}
 use Rattle.array_model.specs.Reading.{Carrier, carrier_of, IsPrefixAlike, agreed, read_set, reading, read_of}
 use Rattle.array_model.specs.Record.{is_ready}
@@ -74,6 +75,13 @@ abbrev pub AgreedStays : Type 0
 AgreedStays = (array : Array) (held cut : Contents) (carriers : List Carrier) → AreFirst array held carriers
     → AllByRecursion (λ carrier. IsCutBehind array (bytes_at held carrier.place) (bytes_at cut carrier.place)) carriers
     → agreed array cut carriers ≡ agreed array held carriers
+
+-- ---- payloads
+
+-- From any k distinct fragments of a payload it is read.
+abbrev pub PayloadIsRead : Type 0
+PayloadIsRead = (k n : ℕ) (payload : List ℕ) (fragments : List (List ℕ)) (given : List Fragment) → k ≤ n → n ≤ 256
+    → AreFragments k n payload fragments → AreSome k n fragments given → payload_from k given (length payload) ≡ payload
 
 -- ---- a set that doesn't stand
 

@@ -11,5 +11,5 @@ pub use laws::{
 };
 pub use reading_laws::{
     agreed_is_longest, agreed_list_stays, carriers_stay, fallen_sets_say_nothing,
-    formatted_arrays_are_kept, sets_rise, what_stays_is_read,
+    formatted_arrays_are_kept, payloads_are_read, sets_rise, what_stays_is_read,
 };

@@ -1,6 +1,6 @@
 //! Laws of the reading of an array. These functions do nothing: their contracts are the theorems.
 
-ghost use Rattle.array_model.specs.ReadingLaws.{NoCarrierComes, CarrierStays, PresentStay, LeftIsHeldBefore, ReadingRises, AgreedIsHeld, AgreedIsLongest, AgreedGrows, AgreedStays, FallenSaysNothing, UnreadySaysNothing, FormattedIsPresent, FormattedIsKept, FormattedIsEmpty};
+ghost use Rattle.array_model.specs.ReadingLaws.{NoCarrierComes, CarrierStays, PresentStay, LeftIsHeldBefore, ReadingRises, AgreedIsHeld, AgreedIsLongest, AgreedGrows, AgreedStays, PayloadIsRead, FallenSaysNothing, UnreadySaysNothing, FormattedIsPresent, FormattedIsKept, FormattedIsEmpty};
 
 /// Where drives leave, no index gets a carrier that had none, and each carrier on a drive that stays is the carrier still.
 pub fn carriers_stay()
@@ -29,6 +29,11 @@ pub fn agreed_is_longest()
 pub fn agreed_list_stays()
     ensures grows { AgreedGrows }
     ensures cut { AgreedStays }
+{}
+
+/// A payload is read from any k of its fragments.
+pub fn payloads_are_read()
+    ensures { PayloadIsRead }
 {}
 
 /// The same is valid with the zones of a set that doesn't stand and without them. A set without a ready record is such a one.
