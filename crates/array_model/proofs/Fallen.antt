@@ -15,7 +15,7 @@ use Rattle.array_model.proofs.SameZones.{carriers_among, read_set-same, TellsSam
 
 -- ---- numbers without one
 
-filter_rises : (keep : ℕ → Bool) (low : ℕ) (ids : List ℕ) → Rise low ids → Rise low (filter keep ids)
+pub filter_rises : (keep : ℕ → Bool) (low : ℕ) (ids : List ℕ) → Rise low ids → Rise low (filter keep ids)
 filter_rises keep low [] rise = tt
 filter_rises keep low (id ∷ ids) rise = at_one (keep id) (filter_rises keep id ids rise.1)
   where

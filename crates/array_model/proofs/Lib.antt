@@ -20,3 +20,6 @@ pub mod Agreed
 pub mod Fallen
 pub mod Formatted
 pub mod Payloads
+pub mod Alike
+pub mod Lowest
+pub mod Fragments

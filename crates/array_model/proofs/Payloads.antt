@@ -119,7 +119,7 @@ value_beside : (r x c : ℕ) (cs : List ℕ) → IsByte r → IsByte x → AreBy
     → value_at (c ∷ cs) x ≡ bit_xor (value_at (c ∷ cs) r) (product (bit_xor x r) (value_at (tails r cs) x))
 value_beside r x c cs hr hx h = ap (bit_xor c) (less_first r x cs hr hx h) ∙ sym (xor_assoc c (product r (value_at cs r)) (product (bit_xor x r) (value_at (tails r cs) x)))
 
-at_among : {X : Type 0} (P : X → Type 0) (xs : List X) (x : X) → AllByRecursion P xs → Among x xs → P x
+pub at_among : {X : Type 0} (P : X → Type 0) (xs : List X) (x : X) → AllByRecursion P xs → Among x xs → P x
 at_among P [] x all found = absurd found
 at_among P (y ∷ xs) x all (inl is) = subst P is all.0
 at_among P (y ∷ xs) x all (inr later) = at_among P xs x all.1 later

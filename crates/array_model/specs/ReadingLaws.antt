@@ -1,19 +1,21 @@
 -- Laws of the reading of an array: what it reads where drives leave, where zones grow or are cut, and without the zones of a
 -- set that doesn't stand.
-use Rattle.std.specs.Prelude.{◌≡◌, ℕ, ◌*◌, ◌<◌, ◌≤◌, ◌==◌, Bool, false, List, [], length, take, Option, Some, None, Contains, if◌then◌else◌}
+use Rattle.std.specs.Prelude.{◌≡◌, ℕ, ◌*◌, ◌<◌, ◌≤◌, ◌==◌, Bool, true, false, ◌⊎◌, List, [], length, take, Option, Some, None, Contains, if◌then◌else◌}
 use Rattle.std.specs.List.{AllByRecursion, list_any}
 use Rattle.smore_base.specs.declared.limits.TheConstants.{BLOCK_BYTES}
 use Rattle.zone_bay.specs.Contents.{Shape, Contents, Extends}
 use Rattle.zone_bay.specs.Images.{without_each}
 use Rattle.marker_format.specs.declared.marker.Marker.{Marker}
-use Rattle.marker_format.specs.Zone.{Array, IsPrefix, begun, end_from, is_rebuilt}
+use Rattle.marker_format.specs.declared.kind.Kind.TheVariants.{Head}
+use Rattle.marker_format.specs.Marker.{IsMarker}
+use Rattle.marker_format.specs.Zone.{has_kind, Array, IsPrefix, begun, end_from, is_rebuilt}
 use Rattle.array_model.specs.Payload.{Fragment, payload_from, AreFragments, AreSome}
-use Rattle.array_model.specs.Drives.{is_among, drives_of, present, places_on, bytes_at, records_at, head_at}
-use Rattle.array_model.specs.Reading.{Carrier, carrier_of, IsPrefixAlike, agreed, read_set, reading, read_of}
+use Rattle.array_model.specs.Drives.{Place, is_of, is_among, drives_of, present, places_on, bytes_at, records_at, head_at}
+use Rattle.array_model.specs.Reading.{Carrier, carrier_of, fragments_of, carriers_of, aside, agree, IsPrefixAlike, agreed, payload_of, read_set, reading, read_of}
 use Rattle.array_model.specs.Record.{is_ready}
 use Rattle.array_model.specs.Sets.{AreRising, stands, records_of}
 use Rattle.array_model.specs.Enough.{outside, IsPossibleMap}
-use Rattle.array_model.specs.Kept.{IsKept, IsFormatted}
+use Rattle.array_model.specs.Kept.{HaveOnePayload, IsKept, IsFormatted}
 use Rattle.smore_base.specs.Objects.{Map}
 use Rattle.std.specs.FinMap as finmap
 
@@ -31,6 +33,17 @@ CarrierStays = (array : Array) (shape : Shape) (held : Contents) (drives leaving
     → carrier_of array held (places_on shape drives) set index ≡ Some carrier → is_among leaving carrier.place.device ≡ false
     → carrier_of array held (places_on shape (outside leaving drives)) set index ≡ Some carrier
 
+-- on a lower drive, or on the same drive in no higher zone
+abbrev pub IsNoHigher : Place → Place → Type 0
+IsNoHigher one other = (one.device < other.device) ⊎ ((one.device ≡ other.device) × (one.zone ≤ other.zone))
+
+-- A carrier has a whole head of its set and index, and no place with one is lower.
+abbrev pub CarrierIsLowest : Type 0
+CarrierIsLowest = (array : Array) (shape : Shape) (held : Contents) (set index : ℕ) (carrier : Carrier)
+    → carrier_of array held (places_on shape (present shape held [])) set index ≡ Some carrier
+    → (is_of set index (head_at array held carrier.place) ≡ true)
+    × ((place : Place) → Contains (places_on shape (present shape held [])) place → is_of set index (head_at array held place) ≡ true → IsNoHigher carrier.place place)
+
 -- Where devices left, the drives that are present are those that were and stay,
 abbrev pub PresentStay : Type 0
 PresentStay = (shape : Shape) (held : Contents) (leaving : List ℕ) → present shape (without_each leaving held) [] ≡ outside leaving (present shape held [])
@@ -45,6 +58,18 @@ abbrev pub ReadingRises : Type 0
 ReadingRises = (array : Array) (shape : Shape) (held : Contents) (drives : List ℕ) → AreRising (reading array shape held drives)
 
 -- ---- the agreed list
+
+-- Markers that differ in their index alone agree,
+abbrev pub IndexIsAside : Type 0
+IndexIsAside = (m : Marker) (index : ℕ) → agree m (record m { index = index }) ≡ true
+
+-- and heads of which one has the rebuilt mark,
+abbrev pub RebuiltMarkIsAside : Type 0
+RebuiltMarkIsAside = (m : Marker) (mark : ℕ) → has_kind Head m ≡ true → agree m (record m { part = mark }) ≡ true
+
+-- but markers that differ in anything else don't.
+abbrev pub NothingElseIsAside : Type 0
+NothingElseIsAside = (one other : Marker) → IsMarker one → IsMarker other → agree one other ≡ true → aside one ≡ aside other
 
 -- Each carrier has the agreed list,
 abbrev pub AgreedIsHeld : Type 0
@@ -82,6 +107,13 @@ AgreedStays = (array : Array) (held cut : Contents) (carriers : List Carrier) �
 abbrev pub PayloadIsRead : Type 0
 PayloadIsRead = (k n : ℕ) (payload : List ℕ) (fragments : List (List ℕ)) (given : List Fragment) → k ≤ n → n ≤ 256
     → AreFragments k n payload fragments → AreSome k n fragments given → payload_from k given (length payload) ≡ payload
+
+-- Where the carriers' fragments of a record are those of one payload, and there are k of them, that payload is read.
+abbrev pub CarriersGivePayload : Type 0
+CarriersGivePayload = (array : Array) (held : Contents) (places : List Place) (set block : ℕ) (m : Marker)
+    → (one : HaveOnePayload array held (carriers_of array held places set) block m)
+    → array.geometry.k ≤ length (carriers_of array held places set) → fragments_of array ≤ 256
+    → payload_of array held (carriers_of array held places set) block m ≡ one.payload
 
 -- ---- a set that doesn't stand
 

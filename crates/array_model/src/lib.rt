@@ -10,6 +10,7 @@ pub use laws::{
     note_is_last, opening_fixes_what_was_read, records_without_note, unneeded_sets_may_go,
 };
 pub use reading_laws::{
-    agreed_is_longest, agreed_list_stays, carriers_stay, fallen_sets_say_nothing,
-    formatted_arrays_are_kept, payloads_are_read, sets_rise, what_stays_is_read,
+    agreed_is_longest, agreed_list_stays, carriers_are_lowest, carriers_stay,
+    fallen_sets_say_nothing, formatted_arrays_are_kept, markers_agree, payloads_are_read,
+    sets_rise, what_stays_is_read,
 };

@@ -1,11 +1,16 @@
 //! Laws of the reading of an array. These functions do nothing: their contracts are the theorems.
 
-ghost use Rattle.array_model.specs.ReadingLaws.{NoCarrierComes, CarrierStays, PresentStay, LeftIsHeldBefore, ReadingRises, AgreedIsHeld, AgreedIsLongest, AgreedGrows, AgreedStays, PayloadIsRead, FallenSaysNothing, UnreadySaysNothing, FormattedIsPresent, FormattedIsKept, FormattedIsEmpty};
+ghost use Rattle.array_model.specs.ReadingLaws.{NoCarrierComes, CarrierStays, CarrierIsLowest, PresentStay, LeftIsHeldBefore, ReadingRises, IndexIsAside, RebuiltMarkIsAside, NothingElseIsAside, AgreedIsHeld, AgreedIsLongest, AgreedGrows, AgreedStays, PayloadIsRead, CarriersGivePayload, FallenSaysNothing, UnreadySaysNothing, FormattedIsPresent, FormattedIsKept, FormattedIsEmpty};
 
 /// Where drives leave, no index gets a carrier that had none, and each carrier on a drive that stays is the carrier still.
 pub fn carriers_stay()
     ensures none { NoCarrierComes }
     ensures stays { CarrierStays }
+{}
+
+/// A carrier is the lowest place with a whole head of its set and index.
+pub fn carriers_are_lowest()
+    ensures { CarrierIsLowest }
 {}
 
 /// What is read where devices left is what the drives that stay held before.
@@ -17,6 +22,13 @@ pub fn what_stays_is_read()
 /// The sets that are read rise by number.
 pub fn sets_rise()
     ensures { ReadingRises }
+{}
+
+/// Markers agree where they are the same but for the index, and for the rebuilt mark of heads.
+pub fn markers_agree()
+    ensures index { IndexIsAside }
+    ensures mark { RebuiltMarkIsAside }
+    ensures nothing_else { NothingElseIsAside }
 {}
 
 /// The agreed list is the longest that each carrier begins with, but for the index and the rebuilt mark.
@@ -31,9 +43,10 @@ pub fn agreed_list_stays()
     ensures cut { AgreedStays }
 {}
 
-/// A payload is read from any k of its fragments.
+/// A payload is read from any k of its fragments, and so from the carriers that hold them.
 pub fn payloads_are_read()
-    ensures { PayloadIsRead }
+    ensures any { PayloadIsRead }
+    ensures carriers { CarriersGivePayload }
 {}
 
 /// The same is valid with the zones of a set that doesn't stand and without them. A set without a ready record is such a one.
