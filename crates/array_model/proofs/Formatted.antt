@@ -21,7 +21,7 @@ use Rattle.array_model.specs.Map.{items_of, map_of}
 use Rattle.array_model.specs.Drives.{Place, bytes_at, first_of, head_at, is_of, is_among, is_label_of_bay, label_on, drives_of, is_present, present, labels, places_on}
 use Rattle.array_model.specs.Reading.{Carrier, carries, carrier_of, fragments_of, read_set, with_head, ids_at, read_of}
 use Rattle.array_model.specs.Enough.{IsLeftAfter}
-use Rattle.array_model.specs.Kept.{HaveOneList, carriers_in, CarriersAgree, ClosedStand, AreCopies, OneIsUnsettled, CutsKeepReady, LabelsAreOf, EndsAreFound, TakesFewer, EachZone, ShowsKept, label_of, HasShape, IsFormatted}
+use Rattle.array_model.specs.Kept.{HaveOneList, carriers_in, CarriersAgree, ClosedStand, AreCopies, OneIsUnsettled, CutsKeepReady, CutsFit, LabelsAreOf, EndsAreFound, TakesFewer, EachZone, ShowsKept, label_of, HasShape, IsFormatted}
 use Rattle.array_model.specs.ReadingLaws.{FormattedIsPresent, FormattedIsKept, FormattedIsEmpty}
 use Rattle.array_model.proofs.Records.{Among, among_from_contains}
 use Rattle.array_model.proofs.Carriers.{held_without, label_in, label_on-is, label_in-is, label_in-own, no_label, places_of}
@@ -215,6 +215,7 @@ module _ (array : Array) (shape : Shape) (held : Contents) (fits : HasShape arra
         ends = each_zone (EndsAreFound array) (ends_of_nothing array);
         blocks = each_zone (TakesFewer array shape.blocks) (λ some. absurd (omega (arith, some, ap length (nothing_whole array))));
         ready = subst (CutsKeepReady k) (sym nothing_read) (λ set cut kept found. absurd (omega (arith, found.1)));
+        cuts = subst (CutsFit k) (sym nothing_read) (λ set kept found. absurd (omega (arith, found.1)));
       }
 
 pub formatted_is_kept : FormattedIsKept

@@ -16,7 +16,7 @@ use Rattle.array_model.specs.Payload.{AreFragments, fragment_of}
 use Rattle.array_model.specs.Drives.{present, labels, places_on, bytes_at, records_at}
 use Rattle.array_model.specs.Reading.{Carrier, fragments_of, carriers_of, IsPrefixAlike, agreed, fragment_on, read_of}
 use Rattle.array_model.specs.Record.{Record, Part, Put, Delete, Cut, is_ready}
-use Rattle.array_model.specs.Sets.{ReadSet, ValidSet, Placed, stands, valid, records_of}
+use Rattle.array_model.specs.Sets.{ReadSet, ValidSet, Placed, stands, valid, kept_by, records_of}
 use Rattle.array_model.specs.Map.{items_of}
 use Rattle.array_model.specs.Enough.{is_settled, IsRemains}
 
@@ -82,6 +82,12 @@ abbrev pub CutsKeepReady : ℕ → List ReadSet → Type 0
 CutsKeepReady k sets =
     (set : ReadSet) (cut : Placed) (kept : ℕ) → Contains sets set → stands k set ≡ true
     → Contains (records_of k sets) cut → cut.item ≡ Cut set.id kept → 0 < kept → list_any is_ready (take kept set.records) ≡ true
+
+-- A valid cut keeps no more records of a set that stands than its carriers agree on. (Else the carriers that have more would
+-- say more once those that have fewer are gone, and the set counts as settled.)
+abbrev pub CutsFit : ℕ → List ReadSet → Type 0
+CutsFit k sets =
+    (set : ReadSet) (kept : ℕ) → Contains sets set → stands k set ≡ true → kept_by set.id (valid k sets) ≡ Some kept → kept ≤ length set.records
 
 -- ---- labels and zones
 
@@ -149,8 +155,10 @@ pub record ShowsKept (array : Array) (shape : Shape) (held : Contents) : Type 0 
   pub ends : EachZone shape held (EndsAreFound array)
   -- Records and feet leave a block free in their zone,
   pub blocks : EachZone shape held (TakesFewer array shape.blocks)
-  -- and a cut that keeps anything of a set keeps its ready record.
+  -- and a cut that keeps anything of a set keeps its ready record,
   pub ready : CutsKeepReady array.geometry.k (read_of array shape held)
+  -- and no more records than there are.
+  pub cuts : CutsFit array.geometry.k (read_of array shape held)
 
 -- An array is kept where all that remains of it shows so.
 abbrev pub IsKept : Array → Shape → Contents → Type 0
