@@ -16,10 +16,10 @@ use Rattle.array_model.proofs.SameZones.{map-same}
 
 -- ---- two lists
 
-alike_where_agreed : (a b : Marker) → agree a b ≡ true → alike a ≡ alike b
+pub alike_where_agreed : (a b : Marker) → agree a b ≡ true → alike a ≡ alike b
 alike_where_agreed a b is = (bytes_eq-Decides (alike a) (alike b)).0 is
 
-agree_where_alike : (a b : Marker) → alike a ≡ alike b → agree a b ≡ true
+pub agree_where_alike : (a b : Marker) → alike a ≡ alike b → agree a b ≡ true
 agree_where_alike a b same = (bytes_eq-Decides (alike a) (alike b)).1 same
 
 -- What two lists have in common are the first ones of the first,
@@ -75,7 +75,7 @@ common_grows one one' other other' p q =
 
 -- ---- all carriers
 
-held_by_each : (array : Array) (held : Contents) (carriers : List Carrier) (carrier : Carrier) → Among carrier carriers → IsPrefixAlike (agreed array held carriers) (records_at array held carrier.place)
+pub held_by_each : (array : Array) (held : Contents) (carriers : List Carrier) (carrier : Carrier) → Among carrier carriers → IsPrefixAlike (agreed array held carriers) (records_at array held carrier.place)
 held_by_each array held [] carrier found = absurd found
 held_by_each array held (c ∷ []) carrier (inl is) = alike_prefix _ (records_at array held carrier.place) ([], ap (λ (x : Carrier). records_at array held x.place) (sym is) ∙ sym (append-nil (records_at array held c.place)))
 held_by_each array held (c ∷ []) carrier (inr found) = absurd found

@@ -20,7 +20,7 @@ rebuilt_mark_is_aside m mark is =
     (ap (λ part. spelling_of (record m { index = 0; part = part })) (cond-true (eqb m.kind 1) 0 m.part is ∙ sym (cond-true (eqb m.kind 1) 0 mark is)))
 
 -- What a marker of another kind than a head has as its part stays.
-part_stays : (m : Marker) → eqb m.kind 1 ≡ false → (aside m).part ≡ m.part
+pub part_stays : (m : Marker) → eqb m.kind 1 ≡ false → (aside m).part ≡ m.part
 part_stays m other = cond-false (eqb m.kind 1) 0 m.part other
 
 counts_aside : (m : Marker) (kind : Kind) → m.kind ≡ code_of kind → Counts kind m → Counts kind (aside m)

@@ -23,3 +23,4 @@ pub mod Payloads
 pub mod Alike
 pub mod Lowest
 pub mod Fragments
+pub mod Settled

@@ -1,6 +1,6 @@
 -- Laws of the reading of an array: what it reads where drives leave, where zones grow or are cut, and without the zones of a
 -- set that doesn't stand.
-use Rattle.std.specs.Prelude.{◌≡◌, ℕ, ◌*◌, ◌<◌, ◌≤◌, ◌==◌, Bool, true, false, ◌⊎◌, List, [], length, take, Option, Some, None, Contains, if◌then◌else◌}
+use Rattle.std.specs.Prelude.{◌≡◌, ℕ, ◌*◌, ◌<◌, ◌≤◌, ◌==◌, Bool, true, false, ◌⊎◌, List, [], length, map, take, Option, Some, None, Contains, if◌then◌else◌}
 use Rattle.std.specs.List.{AllByRecursion, list_any}
 use Rattle.smore_base.specs.declared.limits.TheConstants.{BLOCK_BYTES}
 use Rattle.zone_bay.specs.Contents.{Shape, Contents, Extends}
@@ -11,11 +11,11 @@ use Rattle.marker_format.specs.Marker.{IsMarker}
 use Rattle.marker_format.specs.Zone.{has_kind, Array, IsPrefix, begun, end_from, is_rebuilt}
 use Rattle.array_model.specs.Payload.{Fragment, payload_from, AreFragments, AreSome}
 use Rattle.array_model.specs.Drives.{Place, is_of, is_among, drives_of, present, places_on, bytes_at, records_at, head_at}
-use Rattle.array_model.specs.Reading.{Carrier, carrier_of, fragments_of, carriers_of, aside, agree, IsPrefixAlike, agreed, payload_of, read_set, reading, read_of}
+use Rattle.array_model.specs.Reading.{Carrier, carrier_of, fragments_of, carriers_of, aside, alike, agree, IsPrefixAlike, agreed, are_closed, payload_of, read_set, reading, read_of}
 use Rattle.array_model.specs.Record.{is_ready}
 use Rattle.array_model.specs.Sets.{AreRising, stands, records_of}
 use Rattle.array_model.specs.Enough.{outside, IsPossibleMap}
-use Rattle.array_model.specs.Kept.{HaveOnePayload, IsKept, IsFormatted}
+use Rattle.array_model.specs.Kept.{HaveOneList, HaveOnePayload, IsKept, IsFormatted}
 use Rattle.smore_base.specs.Objects.{Map}
 use Rattle.std.specs.FinMap as finmap
 
@@ -100,6 +100,24 @@ abbrev pub AgreedStays : Type 0
 AgreedStays = (array : Array) (held cut : Contents) (carriers : List Carrier) → AreFirst array held carriers
     → AllByRecursion (λ carrier. IsCutBehind array (bytes_at held carrier.place) (bytes_at cut carrier.place)) carriers
     → agreed array cut carriers ≡ agreed array held carriers
+
+-- ---- settled sets
+
+-- these are some of the carriers, one at least
+abbrev pub AreSomeOf : List Carrier → List Carrier → Type 0
+AreSomeOf some carriers = (0 < length some) × ((carrier : Carrier) → Contains some carrier → Contains carriers carrier)
+
+-- Some of a set's carriers agree on as much as all do, and perhaps on more. So where no more is kept, the same is.
+abbrev pub CutReadsTheSame : Type 0
+CutReadsTheSame = (array : Array) (held : Contents) (some carriers : List Carrier) (kept : ℕ) → AreSomeOf some carriers
+    → kept ≤ length (agreed array held carriers)
+    → map alike (take kept (agreed array held some)) ≡ map alike (take kept (agreed array held carriers))
+
+-- Where the whole records of all are first ones of one list, and each has a whole foot, they agree on the same.
+abbrev pub ClosedReadsTheSame : Type 0
+ClosedReadsTheSame = (array : Array) (held : Contents) (some carriers : List Carrier) → AreSomeOf some carriers
+    → HaveOneList array held carriers → are_closed array held carriers ≡ true
+    → map alike (agreed array held some) ≡ map alike (agreed array held carriers)
 
 -- ---- payloads
 
