@@ -23,7 +23,7 @@ pub agree_where_alike : (a b : Marker) → alike a ≡ alike b → agree a b ≡
 agree_where_alike a b same = (bytes_eq-Decides (alike a) (alike b)).1 same
 
 -- What two lists have in common are the first ones of the first,
-common_first : (ms others : List Marker) → IsPrefix (common ms others) ms
+pub common_first : (ms others : List Marker) → IsPrefix (common ms others) ms
 common_first [] others = ([], refl)
 common_first (m ∷ ms) [] = (m ∷ ms, refl)
 common_first (m ∷ ms) (other ∷ others) =

@@ -24,3 +24,4 @@ pub mod Alike
 pub mod Lowest
 pub mod Fragments
 pub mod Settled
+pub mod SettledRecords

@@ -45,7 +45,7 @@ closed_ends : (array : Array) (bytes : List ℕ) → has_foot array bytes ≡ tr
 unfolding has_foot foot_follows
 closed_ends array bytes is = foot_ends bytes (end_from 0 (whole_records array bytes)) (first_digest 0 (whole_records array bytes)) (last_or None (whole_records array bytes)) is
 
-whole_stand : (array : Array) (bytes : List ℕ) → Stand array bytes None 0 (whole_records array bytes)
+pub whole_stand : (array : Array) (bytes : List ℕ) → Stand array bytes None 0 (whole_records array bytes)
 unfolding whole_records
 whole_stand array bytes = at_one (is_rebuilt (begun array bytes) && not (trailer_follows array bytes (begun array bytes)))
   where
@@ -104,7 +104,7 @@ no_more array bytes (x ∷ xs) [] rest o p block well stand both same last = abs
 no_more array bytes (x ∷ xs) (y ∷ ys) rest o p block well stand both same last =
     no_more array bytes xs ys rest (Some x) (Some y) (block + blocks_of y) well.1 stand.2 (well.0, stand.0.marker, cc) (cc) last
 
-all_markers : (array : Array) (bytes : List ℕ) (ms : List Marker) (before : Option Marker) (block : ℕ) → Stand array bytes before block ms → AllByRecursion IsMarker ms
+pub all_markers : (array : Array) (bytes : List ℕ) (ms : List Marker) (before : Option Marker) (block : ℕ) → Stand array bytes before block ms → AllByRecursion IsMarker ms
 all_markers array bytes [] before block stand = tt
 all_markers array bytes (m ∷ ms) before block stand = (stand.0.marker, all_markers array bytes ms (Some m) (block + blocks_of m) stand.2)
 

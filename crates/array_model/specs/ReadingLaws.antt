@@ -15,7 +15,7 @@ use Rattle.array_model.specs.Reading.{Carrier, carrier_of, fragments_of, carrier
 use Rattle.array_model.specs.Record.{is_ready}
 use Rattle.array_model.specs.Sets.{AreRising, stands, records_of}
 use Rattle.array_model.specs.Enough.{outside, IsPossibleMap}
-use Rattle.array_model.specs.Kept.{HaveOneList, HaveOnePayload, IsKept, IsFormatted}
+use Rattle.array_model.specs.Kept.{HaveOneList, HaveOnePayload, HavePayloads, IsKept, IsFormatted}
 use Rattle.smore_base.specs.Objects.{Map}
 use Rattle.std.specs.FinMap as finmap
 
@@ -132,6 +132,28 @@ CarriersGivePayload = (array : Array) (held : Contents) (places : List Place) (s
     → (one : HaveOnePayload array held (carriers_of array held places set) block m)
     → array.geometry.k ≤ length (carriers_of array held places set) → fragments_of array ≤ 256
     → payload_of array held (carriers_of array held places set) block m ≡ one.payload
+
+-- at these places a set has some of its carriers at those, and k of them
+pub record KeepsEnough (array : Array) (held : Contents) (places those : List Place) (set : ℕ) : Type 0 where
+  pub some : AreSomeOf (carriers_of array held places set) (carriers_of array held those set)
+  pub enough : array.geometry.k ≤ length (carriers_of array held places set)
+  pub were : array.geometry.k ≤ length (carriers_of array held those set)
+  pub fits : fragments_of array ≤ 256
+
+-- So where the carriers have fragments of one payload of each record, the same records are read: as many as are kept of those
+-- that all carriers agree on,
+abbrev pub KeptIsReadFromSome : Type 0
+KeptIsReadFromSome = (array : Array) (held : Contents) (places those : List Place) (set kept : ℕ) → KeepsEnough array held places those set
+    → kept ≤ length (agreed array held (carriers_of array held those set))
+    → HavePayloads array held (carriers_of array held those set) kept
+    → take kept (read_set array held places set).records ≡ take kept (read_set array held those set).records
+
+-- and all records where all carriers are closed.
+abbrev pub ClosedIsReadFromSome : Type 0
+ClosedIsReadFromSome = (array : Array) (held : Contents) (places those : List Place) (set : ℕ) → KeepsEnough array held places those set
+    → HaveOneList array held (carriers_of array held those set) → are_closed array held (carriers_of array held those set) ≡ true
+    → HavePayloads array held (carriers_of array held those set) (length (agreed array held (carriers_of array held those set)))
+    → (read_set array held places set).records ≡ (read_set array held those set).records
 
 -- ---- a set that doesn't stand
 

@@ -12,5 +12,5 @@ pub use laws::{
 pub use reading_laws::{
     agreed_is_longest, agreed_list_stays, carriers_are_lowest, carriers_stay,
     fallen_sets_say_nothing, formatted_arrays_are_kept, markers_agree, payloads_are_read,
-    sets_rise, settled_sets_read_the_same, what_stays_is_read,
+    sets_rise, settled_sets_agree, settled_sets_read_the_same, what_stays_is_read,
 };

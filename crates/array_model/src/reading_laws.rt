@@ -1,6 +1,6 @@
 //! Laws of the reading of an array. These functions do nothing: their contracts are the theorems.
 
-ghost use Rattle.array_model.specs.ReadingLaws.{NoCarrierComes, CarrierStays, CarrierIsLowest, PresentStay, LeftIsHeldBefore, ReadingRises, IndexIsAside, RebuiltMarkIsAside, NothingElseIsAside, AgreedIsHeld, AgreedIsLongest, AgreedGrows, AgreedStays, CutReadsTheSame, ClosedReadsTheSame, PayloadIsRead, CarriersGivePayload, FallenSaysNothing, UnreadySaysNothing, FormattedIsPresent, FormattedIsKept, FormattedIsEmpty};
+ghost use Rattle.array_model.specs.ReadingLaws.{NoCarrierComes, CarrierStays, CarrierIsLowest, PresentStay, LeftIsHeldBefore, ReadingRises, IndexIsAside, RebuiltMarkIsAside, NothingElseIsAside, AgreedIsHeld, AgreedIsLongest, AgreedGrows, AgreedStays, CutReadsTheSame, ClosedReadsTheSame, KeptIsReadFromSome, ClosedIsReadFromSome, PayloadIsRead, CarriersGivePayload, FallenSaysNothing, UnreadySaysNothing, FormattedIsPresent, FormattedIsKept, FormattedIsEmpty};
 
 /// Where drives leave, no index gets a carrier that had none, and each carrier on a drive that stays is the carrier still.
 pub fn carriers_stay()
@@ -43,10 +43,16 @@ pub fn agreed_list_stays()
     ensures cut { AgreedStays }
 {}
 
-/// A settled set reads the same from any of its carriers: as far as a cut keeps it, and where all are closed.
-pub fn settled_sets_read_the_same()
+/// A settled set has the same markers from any of its carriers: as far as a cut keeps it, and where all are closed.
+pub fn settled_sets_agree()
     ensures cut { CutReadsTheSame }
     ensures closed { ClosedReadsTheSame }
+{}
+
+/// A settled set has the same records from any k of its carriers: as many as a cut keeps, and all where all are closed.
+pub fn settled_sets_read_the_same()
+    ensures kept { KeptIsReadFromSome }
+    ensures closed { ClosedIsReadFromSome }
 {}
 
 /// A payload is read from any k of its fragments, and so from the carriers that hold them.

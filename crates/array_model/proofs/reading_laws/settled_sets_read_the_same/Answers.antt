@@ -1,8 +1,8 @@
-use Rattle.array_model.proofs.Settled.{cut_reads_the_same, closed_reads_the_same}
+use Rattle.array_model.proofs.SettledRecords.{kept_is_read_from_some, closed_is_read_from_some}
 use Rattle.array_model.proofs.reading_laws.settled_sets_read_the_same.Goals as goal
 
-pub returns-clause-cut : goal.returns-clause-cut
-returns-clause-cut c = cut_reads_the_same
+pub returns-clause-kept : goal.returns-clause-kept
+returns-clause-kept c = kept_is_read_from_some
 
 pub returns-clause-closed : goal.returns-clause-closed
-returns-clause-closed c = closed_reads_the_same
+returns-clause-closed c = closed_is_read_from_some
