@@ -1,7 +1,7 @@
 -- Carriers where drives leave, and which drives are present then.
-use Rattle.std.proofs.Common.{◌≡◌, ℕ, zero, suc, ◌+◌, ◌-◌, Bool, true, false, cond, eqb, inl, inr, List, [], ◌∷◌, map, Option, Some, None, refl, sym, ap, ◌∙◌, subst}
+use Rattle.std.proofs.Common.{◌≡◌, ℕ, zero, suc, ◌+◌, ◌-◌, Bool, true, false, cond, eqb, inl, inr, List, [], ◌∷◌, map, Option, Some, None, refl, sym, ap, ◌∙◌, subst, length, ◌≤◌, arith}
 use Rattle.std.specs.Prelude.{◌&&◌, ◌||◌, not, filter, is_some, take, drop}
-use Rattle.std.specs.List.{AllByRecursion, find, range_with_len}
+use Rattle.std.specs.List.{AllByRecursion, find, range_with_len, filter_map, cons_option}
 use Rattle.std.specs.Option.{option_or}
 use Rattle.std.specs.Str.{bytes_eq}
 use Rattle.std.proofs.lemmas.Bool.{and_from, cases_eq, and_right, eq-eqb, ne_eqb}
@@ -15,9 +15,9 @@ use Rattle.marker_format.specs.declared.label.TheConstants.{LABEL_BYTES}
 use Rattle.marker_format.specs.Label.{label_at}
 use Rattle.marker_format.specs.Block.{block_of, label_block}
 use Rattle.array_model.specs.Drives.{Place, is_label_of_bay, label_on, drives_of, is_among, is_present, places_on, is_of, head_at}
-use Rattle.array_model.specs.Reading.{Carrier, carries}
+use Rattle.array_model.specs.Reading.{Carrier, carries, carrier_of, fragments_of}
 use Rattle.array_model.specs.Enough.{outside}
-use Rattle.array_model.specs.ReadingLaws.{NoCarrierComes, CarrierStays, PresentStay}
+use Rattle.array_model.specs.ReadingLaws.{NoCarrierComes, NoMoreCarriers, CarrierStays, PresentStay}
 
 -- ---- the first that passes
 
@@ -98,6 +98,22 @@ pub carrier_stays : CarrierStays
 carrier_stays array shape held drives leaving set index carrier e stays =
     let is = carries_some index _ carrier e in
     ap (carries index) (first_stays shape leaving (λ place. is_of set index (head_at array held place)) drives carrier.place stays is.0) ∙ ap (λ i. Some (record carrier { index = i })) (sym is.1)
+
+-- what is had of each is had of no more than those of which something else is
+length-filter_map : {X Y : Type 0} (f g : X → Option Y) (xs : List X) → ((x : X) → g x ≡ None → f x ≡ None) → length (filter_map f xs) ≤ length (filter_map g xs)
+length-filter_map f g [] less = omega arith
+length-filter_map {X} {Y} f g (x ∷ xs) less = at_one (g x) (f x) (less x) (length-filter_map f g xs less)
+  where
+    at_one : (o p : Option Y) → (o ≡ None → p ≡ None) → length (filter_map f xs) ≤ length (filter_map g xs) → length (cons_option p (filter_map f xs)) ≤ length (cons_option o (filter_map g xs))
+    at_one None None also rest = rest
+    at_one None (Some y) also rest = let none = also refl in absurd cc
+    at_one (Some z) None also rest = omega (arith, rest)
+    at_one (Some z) (Some y) also rest = omega (arith, rest)
+
+pub no_more_carriers : NoMoreCarriers
+no_more_carriers array shape held drives leaving set =
+    length-filter_map (carrier_of array held (places_on shape (outside leaving drives)) set) (carrier_of array held (places_on shape drives) set) (range_with_len 0 (fragments_of array))
+    (λ index. no_carrier_comes array shape held drives leaving set index)
 
 -- ---- which drives are present
 

@@ -251,7 +251,7 @@ own_label array shape device fits =
     (eq-eqb g.zones shape.zones fits.zones))
     (eq-eqb g.blocks shape.blocks fits.blocks)
 
-all_stay : (p : ℕ → Bool) (xs : List ℕ) → AllByRecursion (λ x. p x ≡ true) xs → filter p xs ≡ xs
+pub all_stay : (p : ℕ → Bool) (xs : List ℕ) → AllByRecursion (λ x. p x ≡ true) xs → filter p xs ≡ xs
 all_stay p [] all = refl
 all_stay p (x ∷ xs) all = cond-true (p x) (x ∷ filter p xs) (filter p xs) all.0 ∙ ap (λ l. x ∷ l) (all_stay p xs all.1)
 

@@ -25,3 +25,4 @@ pub mod Lowest
 pub mod Fragments
 pub mod Settled
 pub mod SettledRecords
+pub mod Flash

@@ -1,6 +1,6 @@
 -- Laws of the reading of an array: what it reads where drives leave, where zones grow or are cut, and without the zones of a
 -- set that doesn't stand.
-use Rattle.std.specs.Prelude.{◌≡◌, ℕ, ◌*◌, ◌<◌, ◌≤◌, ◌==◌, Bool, true, false, ◌⊎◌, List, [], length, map, take, Option, Some, None, Contains, if◌then◌else◌}
+use Rattle.std.specs.Prelude.{◌≡◌, ℕ, ◌*◌, ◌<◌, ◌≤◌, ◌==◌, Bool, true, false, ◌⊎◌, ◌-◌, List, [], ◌∷◌, length, map, take, Option, Some, None, Contains, if◌then◌else◌}
 use Rattle.std.specs.List.{AllByRecursion, list_any}
 use Rattle.smore_base.specs.declared.limits.TheConstants.{BLOCK_BYTES}
 use Rattle.zone_bay.specs.Contents.{Shape, Contents, Extends}
@@ -14,7 +14,7 @@ use Rattle.array_model.specs.Drives.{Place, is_of, is_among, drives_of, present,
 use Rattle.array_model.specs.Reading.{Carrier, carrier_of, fragments_of, carriers_of, aside, alike, agree, IsPrefixAlike, agreed, are_closed, payload_of, read_set, reading, read_of}
 use Rattle.array_model.specs.Record.{is_ready}
 use Rattle.array_model.specs.Sets.{AreRising, stands, records_of}
-use Rattle.array_model.specs.Enough.{outside, IsPossibleMap}
+use Rattle.array_model.specs.Enough.{outside, IsEnough, IsPossibleMap}
 use Rattle.array_model.specs.Kept.{HaveOneList, HaveOnePayload, HavePayloads, IsKept, IsFormatted}
 use Rattle.smore_base.specs.Objects.{Map}
 use Rattle.std.specs.FinMap as finmap
@@ -32,6 +32,11 @@ abbrev pub CarrierStays : Type 0
 CarrierStays = (array : Array) (shape : Shape) (held : Contents) (drives leaving : List ℕ) (set index : ℕ) (carrier : Carrier)
     → carrier_of array held (places_on shape drives) set index ≡ Some carrier → is_among leaving carrier.place.device ≡ false
     → carrier_of array held (places_on shape (outside leaving drives)) set index ≡ Some carrier
+
+-- So no set has more carriers than it had.
+abbrev pub NoMoreCarriers : Type 0
+NoMoreCarriers = (array : Array) (shape : Shape) (held : Contents) (drives leaving : List ℕ) (set : ℕ)
+    → length (carriers_of array held (places_on shape (outside leaving drives)) set) ≤ length (carriers_of array held (places_on shape drives) set)
 
 -- on a lower drive, or on the same drive in no higher zone
 abbrev pub IsNoHigher : Place → Place → Type 0
@@ -52,6 +57,10 @@ PresentStay = (shape : Shape) (held : Contents) (leaving : List ℕ) → present
 abbrev pub LeftIsHeldBefore : Type 0
 LeftIsHeldBefore = (array : Array) (shape : Shape) (held : Contents) (leaving : List ℕ)
     → read_of array shape (without_each leaving held) ≡ reading array shape held (outside leaving (present shape held []))
+
+-- The flash, the last device, may always leave.
+abbrev pub FlashMayLeave : Type 0
+FlashMayLeave = (array : Array) (shape : Shape) (uploads : List ℕ) (held : Contents) → IsEnough array shape uploads held ((shape.devices - 1) ∷ [])
 
 -- The sets that are read rise by number, from 1.
 abbrev pub ReadingRises : Type 0

@@ -11,6 +11,7 @@ pub use laws::{
 };
 pub use reading_laws::{
     agreed_is_longest, agreed_list_stays, carriers_are_lowest, carriers_stay,
-    fallen_sets_say_nothing, formatted_arrays_are_kept, markers_agree, payloads_are_read,
-    sets_rise, settled_sets_agree, settled_sets_read_the_same, what_stays_is_read,
+    fallen_sets_say_nothing, flash_may_leave, formatted_arrays_are_kept, markers_agree,
+    payloads_are_read, sets_rise, settled_sets_agree, settled_sets_read_the_same,
+    what_stays_is_read,
 };

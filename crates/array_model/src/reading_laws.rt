@@ -1,11 +1,12 @@
 //! Laws of the reading of an array. These functions do nothing: their contracts are the theorems.
 
-ghost use Rattle.array_model.specs.ReadingLaws.{NoCarrierComes, CarrierStays, CarrierIsLowest, PresentStay, LeftIsHeldBefore, ReadingRises, IndexIsAside, RebuiltMarkIsAside, NothingElseIsAside, AgreedIsHeld, AgreedIsLongest, AgreedGrows, AgreedStays, CutReadsTheSame, ClosedReadsTheSame, KeptIsReadFromSome, ClosedIsReadFromSome, PayloadIsRead, CarriersGivePayload, FallenSaysNothing, UnreadySaysNothing, FormattedIsPresent, FormattedIsKept, FormattedIsEmpty};
+ghost use Rattle.array_model.specs.ReadingLaws.{NoCarrierComes, CarrierStays, NoMoreCarriers, CarrierIsLowest, PresentStay, LeftIsHeldBefore, FlashMayLeave, ReadingRises, IndexIsAside, RebuiltMarkIsAside, NothingElseIsAside, AgreedIsHeld, AgreedIsLongest, AgreedGrows, AgreedStays, CutReadsTheSame, ClosedReadsTheSame, KeptIsReadFromSome, ClosedIsReadFromSome, PayloadIsRead, CarriersGivePayload, FallenSaysNothing, UnreadySaysNothing, FormattedIsPresent, FormattedIsKept, FormattedIsEmpty};
 
 /// Where drives leave, no index gets a carrier that had none, and each carrier on a drive that stays is the carrier still.
 pub fn carriers_stay()
     ensures none { NoCarrierComes }
     ensures stays { CarrierStays }
+    ensures fewer { NoMoreCarriers }
 {}
 
 /// A carrier is the lowest place with a whole head of its set and index.
@@ -17,6 +18,11 @@ pub fn carriers_are_lowest()
 pub fn what_stays_is_read()
     ensures present { PresentStay }
     ensures read { LeftIsHeldBefore }
+{}
+
+/// Enough stays where the flash leaves.
+pub fn flash_may_leave()
+    ensures { FlashMayLeave }
 {}
 
 /// The sets that are read rise by number.
