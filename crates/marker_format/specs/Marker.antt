@@ -2,11 +2,11 @@
 use Rattle.std.specs.Prelude.{◌≡◌, ℕ, ◌+◌, ◌-◌, ◌^◌, ◌<◌, ◌≤◌, Bool, true, false, ◌&&◌, nat_le, nat_lt, ◌==◌, List, [], ◌∷◌, ◌++◌, length, take, drop, replicate, Option, Some, None, codes, if◌then◌else◌}
 use Rattle.std.specs.Int.{w8, w16, w32, w64, div_ceil}
 use Rattle.smore_base.specs.BigEndian.{big_endian, number_at, Fields, spelled}
-use Rattle.smore_base.specs.declared.limits.TheConstants.{MAX_FRAGMENTS, MAX_NAME_BYTES, MAX_SHARD_BYTES}
+use Rattle.smore_base.specs.declared.limits.TheConstants.{MAX_FRAGMENTS, MAX_NAME_BYTES, MAX_RECORDS, MAX_SHARD_BYTES}
 use Rattle.marker_format.specs.declared.kind.Kind.{Kind}
 use Rattle.marker_format.specs.declared.kind.Kind.TheVariants.{Head, Part, Put, Cut, Digest, Snapshot}
 use Rattle.marker_format.specs.declared.marker.Marker.{Marker}
-use Rattle.marker_format.specs.declared.marker.TheConstants.{COUNTER_END, MAX_RECORDS}
+use Rattle.marker_format.specs.declared.marker.TheConstants.{COUNTER_END}
 use Rattle.marker_format.specs.Frame.{AreZeros}
 use Rattle.marker_format.specs.Kind.{code_of, kind_of, has_stamp, has_upload, has_payload, has_name, most_position}
 

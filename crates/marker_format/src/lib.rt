@@ -23,7 +23,7 @@ pub use laws::{
     records_are_the_longest, records_count_in_whole_zones, records_stand_at_their_blocks,
     spellings_are_apart,
 };
-pub use marker::{COUNTER_END, MARKER_BYTES, MAX_RECORDS, Marker, read_marker, write_marker};
+pub use marker::{COUNTER_END, MARKER_BYTES, Marker, read_marker, write_marker};
 pub use tag::Tag;
 
 #[cfg(test)]

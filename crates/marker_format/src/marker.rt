@@ -7,8 +7,9 @@ ghost use Rattle.marker_format.specs.Marker.{IsMarker, fields_of, bytes_of_name,
 use crate::Kind;
 use crate::magic::{are_zeros, has_frame};
 use smore_base::{
-    MAX_FRAGMENTS, MAX_NAME_BYTES, MAX_SHARD_BYTES, Name, read_bytes, read_u8, read_u16, read_u32,
-    read_u64, write_bytes, write_u8, write_u16, write_u32, write_u64, write_zeros,
+    MAX_FRAGMENTS, MAX_NAME_BYTES, MAX_RECORDS, MAX_SHARD_BYTES, Name, read_bytes, read_u8,
+    read_u16, read_u32, read_u64, write_bytes, write_u8, write_u16, write_u32, write_u64,
+    write_zeros,
 };
 
 /// Bytes of a marker.
@@ -16,9 +17,6 @@ pub const MARKER_BYTES: usize = 328;
 
 /// Sets, stamps and uploads are below this number.
 pub const COUNTER_END: u64 = 1 << 62;
-
-/// Records of a set, at most. They stand at positions from 0 on.
-pub const MAX_RECORDS: u32 = 65_535;
 
 /// The bytes that a marker begins with.
 const MAGIC: &[u8; 8] = b"SMOREMK1";

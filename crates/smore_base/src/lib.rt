@@ -9,6 +9,7 @@ mod laws;
 mod limits;
 mod memory;
 mod name;
+mod name_list;
 
 pub use big_endian::{
     read_bytes, read_u8, read_u16, read_u32, read_u64, write_bytes, write_u8, write_u16, write_u32,
@@ -16,13 +17,14 @@ pub use big_endian::{
 };
 pub use bytes::Bytes;
 pub use geometry::{Geometry, GeometryFault};
-pub use laws::numbers_have_one_spelling;
+pub use laws::{need_is_at_most_a_set_a_record, numbers_have_one_spelling, room_is_the_greatest};
 pub use limits::{
-    BLOCK_BYTES, CONTENT_BYTES, MAX_BLOCKS, MAX_DRIVES, MAX_FRAGMENTS, MAX_NAME_BYTES,
-    MAX_SHARD_BYTES, MAX_ZONES, MIN_BLOCKS, MIN_ZONES,
+    BLOCK_BYTES, CONTENT_BYTES, LINE_BYTES, MAX_BLOCKS, MAX_DRIVES, MAX_FRAGMENTS, MAX_NAME_BYTES,
+    MAX_RECORDS, MAX_SHARD_BYTES, MAX_ZONES, MIN_BLOCKS, MIN_ZONES,
 };
 pub use memory::Memory;
 pub use name::{Name, NameBad};
+pub use name_list::NameList;
 
 #[cfg(test)]
 mod tests;

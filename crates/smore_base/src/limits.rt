@@ -29,3 +29,9 @@ pub const MAX_SHARD_BYTES: u32 = 65_408;
 
 /// Bytes of an object's name, at most. It has at least one.
 pub const MAX_NAME_BYTES: usize = 255;
+
+/// Records of a set, at most: those that list the others among them.
+pub const MAX_RECORDS: u32 = 65_535;
+
+/// Bytes of the line that lists a record.
+pub const LINE_BYTES: u32 = 320;

@@ -94,3 +94,17 @@ fn bytes_are_copied(rt: HostRuntime) -> Result<(), Fail> {
     assert_eq!(rt; owned.as_slice(), b"owned".as_slice());
     Ok(())
 }
+
+#[test]
+fn names_are_listed_in_order(rt: HostRuntime) -> Result<(), Fail> {
+    let mut list = NameList::new(rt.alloc());
+    for (i, name) in ["b", "a", "c"].iter().enumerate() {
+        assert_eq!(rt; list.names().len(), i);
+        list.push(Name::new(name.as_bytes())?)?;
+    }
+    assert_eq!(rt;
+        list.names().first().map(Name::as_slice),
+        Some(b"b".as_slice())
+    );
+    Ok(())
+}
