@@ -2,16 +2,16 @@
 use Rattle.std.specs.Prelude.{ℕ, ◌+◌, ◌*◌, Bool, ◌&&◌, nat_le, ◌==◌, List, [], ◌∷◌, length, filter, sum_by, Option, Some, None, if◌then◌else◌}
 use Rattle.std.specs.Int.{div_ceil}
 use Rattle.std.specs.List.{list_any, find}
-use Rattle.smore_base.specs.declared.limits.TheConstants.{CONTENT_BYTES}
+use Rattle.smore_base.specs.Room.{record_blocks}
 use Rattle.array_model.specs.Record.{Record, Part, Put, Delete, Snapshot}
 use Rattle.array_model.specs.Sets.{ReadSet, Placed, records_of}
 use Rattle.array_model.specs.Shelf.{is_on_shelf}
 use Rattle.array_model.specs.NeedTests.{needed_of}
 use Rattle.array_model.specs.Enough.{is_settled}
 
--- how many blocks a record with so many bytes of payload takes in each zone of its set: its marker's, and those of its fragment
+-- how many blocks a record with so many bytes of payload takes in each zone of its set
 abbrev pub blocks_for : ℕ → ℕ → ℕ
-blocks_for k bytes = 1 + div_ceil (div_ceil bytes k) CONTENT_BYTES
+blocks_for k bytes = record_blocks (div_ceil bytes k)
 
 -- The blocks of a record that cleaning would move, if it is needed. A set's own records and its cuts don't count.
 abbrev pub moved_blocks : ℕ → Record → ℕ

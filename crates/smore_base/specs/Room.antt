@@ -1,19 +1,16 @@
 -- How many records a set has room for, and how many sets an array has room for.
 use Rattle.std.specs.Prelude.{◌≡◌, ◌≤◌, ℕ, zero, suc, ◌+◌, ◌-◌, ◌*◌, ◌/◌, min, Bool, true, false, ◌&&◌, nat_le, List, [], ◌∷◌, sum_by, length, Option, Some, None, if◌then◌else◌}
+use Rattle.std.specs.Int.{div_ceil}
 use Rattle.smore_base.specs.declared.limits.TheConstants.{CONTENT_BYTES, LINE_BYTES, MAX_RECORDS}
 use Rattle.smore_base.specs.declared.geometry.Geometry.{Geometry}
 
--- the least number of pieces of so many things that take so many
-abbrev pub pieces : ℕ → ℕ → ℕ
-pieces things size = (things + (size - 1)) / size
-
 -- the bytes of a fragment of a payload
 abbrev pub fragment_bytes : Geometry → ℕ → ℕ
-fragment_bytes g payload = pieces payload g.k
+fragment_bytes g payload = div_ceil payload g.k
 
 -- the blocks that a record takes in a zone, by the bytes of its fragment: its marker's, and those of the fragment
 abbrev pub record_blocks : ℕ → ℕ
-record_blocks fragment = 1 + pieces fragment CONTENT_BYTES
+record_blocks fragment = 1 + div_ceil fragment CONTENT_BYTES
 
 -- the bytes of a record's payload, at most
 abbrev pub payload_room : Geometry → ℕ
@@ -23,7 +20,7 @@ payload_room g = g.k * g.shard
 
 -- how many digest records list so many records
 abbrev pub digest_records : Geometry → ℕ → ℕ
-digest_records g records = pieces (LINE_BYTES * records) (payload_room g)
+digest_records g records = div_ceil (LINE_BYTES * records) (payload_room g)
 
 -- the blocks of digest records of so many bytes together: all but the last are full
 abbrev pub digest_blocks : Geometry → ℕ → ℕ
