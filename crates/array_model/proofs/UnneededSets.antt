@@ -1,17 +1,15 @@
 -- Why unneeded sets may go.
 --
--- Compare what is valid before and after the loss, from the highest set down. A set that stands afterwards stood before,
--- and its records are cut to the least number that valid cuts of higher sets keep of it: this number must stay. The records
--- that go are those of sets that stand no more, so none of them was needed. If one was a cut of a set that still has a
--- carrier, then, since it wasn't needed, a later valid cut keeps as few, and the least is the same without it. So each set
--- that still stands is cut to the same number, and what is valid afterwards is what was valid, without some records that
--- weren't needed.
+-- Go through the sets from the highest down, before and after the loss. A set that stands afterwards stood before, and of its
+-- records as many are valid as the valid cuts of higher sets keep at the least. What goes are records of sets that stand no
+-- more, and none of them was needed. If one was a cut of a set that has a carrier, a later valid cut keeps as few, or it had
+-- been needed. So the least stays, each set that still stands is cut where it was cut, whatever is read behind, and what is
+-- valid afterwards is what was valid, without some records that weren't needed.
 -- Of each record that was wanted the first copy was needed, so it is still there. So the newest note of a name stays the
--- newest: another could only have the same stamp, and then it is an equal note. The first copies of its parts stay the
--- first. And a snapshot that is complete now was complete, while the newest that was complete still is.
+-- newest: another could only have the same stamp, and then it is an equal note. The first copies of its parts stay the first.
+-- And a snapshot that is complete now was complete, while the newest that was complete still is. So nothing comes to be needed.
 use Rattle.std.proofs.Common.{◌≡◌, ℕ, ◌<◌, ◌≤◌, Bool, true, false, List, [], ◌∷◌, ◌++◌, Option, inl, inr, ⊎_elim, refl, sym, ap, ◌∙◌, subst, subst₂, true≢false, append_assoc, arith}
 use Rattle.std.specs.List.{AllZip, AllByRecursion}
-use Rattle.array_model.specs.Record.{Record}
 use Rattle.array_model.specs.Sets.{ReadSet, Placed, stands, cut_to, kept_by, placed_from, valid, records_of, least_kept, HasCarrier}
 use Rattle.array_model.specs.Map.{items_of, value_in}
 use Rattle.array_model.specs.Need.{IsNeeded, IsNeededSet}
@@ -37,6 +35,37 @@ nothing_stands_in k uploads sets = record {
   cut = λ before it after unneeded last. absurd (unneeded (inr last));
 }
 
+-- A set loses carriers. While it has k of them it stands as it stood, and has as many records as the sets above it keep:
+-- what is read behind them doesn't matter.
+pub record Loses (k : ℕ) (above : List ReadSet) (old new : ReadSet) : Type 0 where
+  pub id : new.id ≡ old.id
+  pub carriers : new.carriers ≤ old.carriers
+  pub stays : k ≤ new.carriers → stands k old ≡ true → stands k new ≡ true
+  pub stood : stands k new ≡ true → stands k old ≡ true
+  pub kept : stands k new ≡ true → cut_to (kept_by old.id (valid k above)) new.records ≡ cut_to (kept_by old.id (valid k above)) old.records
+
+abbrev pub AllLose : ℕ → List ReadSet → List ReadSet → Type 0
+AllLose k [] [] = Unit {0}
+AllLose k [] (set' ∷ new) = ⊥
+AllLose k (set ∷ old) [] = ⊥
+AllLose k (set ∷ old) (set' ∷ new) = Loses k old set set' × AllLose k old new
+
+-- So does one of which all records stay.
+loses_carriers : (k : ℕ) (above : List ReadSet) (old new : ReadSet) → LosesCarriers old new → Loses k above old new
+loses_carriers k above old new fewer = record {
+  id = fewer.id;
+  carriers = fewer.carriers;
+  stays = λ enough was. stands_with k old new fewer.records was enough;
+  stood = λ still. let many = standing_carriers k new still in let few = fewer.carriers in stands_with k new old (sym fewer.records) still (omega arith);
+  kept = λ still. ap (cut_to (kept_by old.id (valid k above))) fewer.records;
+}
+
+all_lose_carriers : (k : ℕ) (old new : List ReadSet) → AllZip LosesCarriers old new → AllLose k old new
+all_lose_carriers k [] [] fewer = tt
+all_lose_carriers k [] (set' ∷ new) fewer = fewer
+all_lose_carriers k (set ∷ old) [] fewer = fewer
+all_lose_carriers k (set ∷ old) (set' ∷ new) fewer = (loses_carriers k old set set' fewer.0, all_lose_carriers k old new fewer.1)
+
 module _ (k : ℕ) (uploads : List ℕ) (all : List ReadSet) where
   -- The least that is kept of a set with a carrier stays.
   least_the_same : (target : ℕ) → HasCarrier all target → {before old new : List Placed} → Thin k uploads all before old new → least_kept target (items_of new) ≡ least_kept target (items_of old)
@@ -45,62 +74,65 @@ module _ (k : ℕ) (uploads : List ℕ) (all : List ReadSet) where
       ∙ least_stays k uploads all [] (IsUnneeded k uploads all) (λ item. ⊥) (nothing_stands_in k uploads all) target there thin
       ∙ lesser_none (least_kept target (items_of old))
 
+  kept_the_same : (target : ℕ) (old new : List ReadSet) (before : List Placed) → HasCarrier all target → Thin k uploads all before (records_of k old) (records_of k new) → kept_by target (valid k new) ≡ kept_by target (valid k old)
+  kept_the_same target old new before there thin = kept_least target (valid k new) ∙ least_the_same target there thin ∙ sym (kept_least target (valid k old))
+
   -- A set that stands before and after is cut to the same number, since the sets above keep the least of it.
-  same_cut : (set set' : ReadSet) (old new : List ReadSet) (before : List Placed) → LosesCarriers set set' → HasCarrier all set.id → Thin k uploads all before (records_of k old) (records_of k new) → cut_records k set' new ≡ cut_records k set old
-  same_cut set set' old new before fewer there rest =
-      let kept : kept_by set.id (valid k new) ≡ kept_by set.id (valid k old) = kept_least set.id (valid k new) ∙ least_the_same set.id there rest ∙ sym (kept_least set.id (valid k old)) in
-      ap (λ (id : ℕ). placed_from id 0 (cut_to (kept_by id (valid k new)) set'.records)) fewer.id
-      ∙ ap (λ (items : List Record). placed_from set.id 0 (cut_to (kept_by set.id (valid k new)) items)) fewer.records
-      ∙ ap (λ (n : Option ℕ). placed_from set.id 0 (cut_to n set.records)) kept
+  same_cut : (set set' : ReadSet) (old new : List ReadSet) (before : List Placed) → Loses k old set set' → stands k set' ≡ true → HasCarrier all set.id → Thin k uploads all before (records_of k old) (records_of k new) → cut_records k set' new ≡ cut_records k set old
+  same_cut set set' old new before loses still there rest =
+      ap (λ (id : ℕ). placed_from id 0 (cut_to (kept_by id (valid k new)) set'.records)) loses.id
+      ∙ ap (λ (n : Option ℕ). placed_from set.id 0 (cut_to n set'.records)) (kept_the_same set.id old new before there rest)
+      ∙ ap (placed_from set.id 0) (loses.kept still)
 
   -- One set more, below those for which it holds.
-  one_more : 0 < k → (set set' : ReadSet) (old new : List ReadSet) (before : List Placed) → LosesCarriers set set' → (IsNeededSet k uploads all set'.id → k ≤ set'.carriers) → (0 < set.carriers → HasCarrier all set.id) → records_of k all ≡ before ++ records_of k (set ∷ old) → ((ahead : List Placed) → records_of k all ≡ ahead ++ records_of k old → Thin k uploads all ahead (records_of k old) (records_of k new)) → (b b' : Bool) → stands k set ≡ b → stands k set' ≡ b' → Thin k uploads all before (records_of k (set ∷ old)) (records_of k (set' ∷ new))
-  one_more some set set' old new before fewer enough there is again true true was still =
+  one_more : 0 < k → (set set' : ReadSet) (old new : List ReadSet) (before : List Placed) → Loses k old set set' → (IsNeededSet k uploads all set'.id → k ≤ set'.carriers) → (0 < set.carriers → HasCarrier all set.id) → records_of k all ≡ before ++ records_of k (set ∷ old) → ((ahead : List Placed) → records_of k all ≡ ahead ++ records_of k old → Thin k uploads all ahead (records_of k old) (records_of k new)) → (b b' : Bool) → stands k set ≡ b → stands k set' ≡ b' → Thin k uploads all before (records_of k (set ∷ old)) (records_of k (set' ∷ new))
+  one_more some set set' old new before loses enough there is again true true was still =
       let mine = cut_records k set old in
       let was_read = read_standing k set old was in
       let rest = again (before ++ mine) (is ∙ ap (λ r. before ++ r) was_read ∙ sym (append_assoc before mine (records_of k old))) in
       let k_carriers = standing_carriers k set was in
-      let same = same_cut set set' old new (before ++ mine) fewer (there (omega arith)) rest in
+      let same = same_cut set set' old new (before ++ mine) loses still (there (omega arith)) rest in
       subst₂ (λ o n. Thin k uploads all before o n) (sym was_read) (sym (read_standing k set' new still ∙ ap (λ m. m ++ records_of k new) same))
       (all_stay mine before (records_of k old) (records_of k new) rest)
-  one_more some set set' old new before fewer enough there is again true false was falls =
+  one_more some set set' old new before loses enough there is again true false was falls =
       let mine = cut_records k set old in
       let was_read = read_standing k set old was in
       let is' : records_of k all ≡ before ++ (mine ++ records_of k old) = is ∙ ap (λ r. before ++ r) was_read in
       let unneeded : IsNeededSet k uploads all set.id → ⊥ = (λ needed.
-      let still = stands_with k set set' fewer.records was (enough (subst (λ id. IsNeededSet k uploads all id) (sym fewer.id) needed)) in
+      let still = loses.stays (enough (subst (λ id. IsNeededSet k uploads all id) (sym loses.id) needed)) was in
       true≢false (sym still ∙ falls)) in
       subst₂ (λ o n. Thin k uploads all before o n) (sym was_read) (sym (read_fallen k set' new falls))
       (all_go (records_of k all) mine before (records_of k old) (records_of k new) set.id (placed_in set.id 0 (cut_to (kept_by set.id (valid k old)) set.records))
       (λ ahead it behind at own counts. unneeded (it, record { before = ahead; after = behind ++ records_of k old; valid = at; why = counts }, own)) is' (again (before ++ mine) (is' ∙ sym (append_assoc before mine (records_of k old)))))
-  one_more some set set' old new before fewer enough there is again false true fell still =
-      let many = standing_carriers k set' still in
-      let few = fewer.carriers in
-      absurd (true≢false (sym (stands_with k set' set (sym fewer.records) still (omega arith)) ∙ fell))
-  one_more some set set' old new before fewer enough there is again false false fell falls =
+  one_more some set set' old new before loses enough there is again false true fell still = absurd (true≢false (sym (loses.stood still) ∙ fell))
+  one_more some set set' old new before loses enough there is again false false fell falls =
       subst₂ (λ o n. Thin k uploads all before o n) (sym (read_fallen k set old fell)) (sym (read_fallen k set' new falls))
       (again before (is ∙ ap (λ r. before ++ r) (read_fallen k set old fell)))
 
-  thin : 0 < k → (old new : List ReadSet) (before : List Placed) → records_of k all ≡ before ++ records_of k old → ((id : ℕ) → HasCarrier old id → HasCarrier all id) → AllZip LosesCarriers old new → AllByRecursion (λ set. IsNeededSet k uploads all set.id → k ≤ set.carriers) new → Thin k uploads all before (records_of k old) (records_of k new)
-  thin some [] [] before is there fewer enough = nothing
-  thin some [] (set' ∷ new) before is there fewer enough = absurd fewer
-  thin some (set ∷ old) [] before is there fewer enough = absurd fewer
-  thin some (set ∷ old) (set' ∷ new) before is there fewer enough =
-      one_more some set set' old new before fewer.0 enough.0 (λ has. there set.id (inl (refl, has))) is
-      (λ ahead is'. thin some old new ahead is' (λ id has. there id (inr has)) fewer.1 enough.1)
+  thin : 0 < k → (old new : List ReadSet) (before : List Placed) → records_of k all ≡ before ++ records_of k old → ((id : ℕ) → HasCarrier old id → HasCarrier all id) → AllLose k old new → AllByRecursion (λ set. IsNeededSet k uploads all set.id → k ≤ set.carriers) new → Thin k uploads all before (records_of k old) (records_of k new)
+  thin some [] [] before is there lose enough = nothing
+  thin some [] (set' ∷ new) before is there lose enough = absurd lose
+  thin some (set ∷ old) [] before is there lose enough = absurd lose
+  thin some (set ∷ old) (set' ∷ new) before is there lose enough =
+      one_more some set set' old new before lose.0 enough.0 (λ has. there set.id (inl (refl, has))) is
+      (λ ahead is'. thin some old new ahead is' (λ id has. there id (inr has)) lose.1 enough.1)
       (stands k set) (stands k set') refl refl
 
 -- A set with a carrier had one.
-has_carrier_was : (old new : List ReadSet) → AllZip LosesCarriers old new → (id : ℕ) → HasCarrier new id → HasCarrier old id
-has_carrier_was [] [] fewer id has = has
-has_carrier_was [] (set' ∷ new) fewer id has = absurd fewer
-has_carrier_was (set ∷ old) [] fewer id has = absurd has
-has_carrier_was (set ∷ old) (set' ∷ new) fewer id (inl here) = let less = fewer.0.carriers in let some = here.1 in inl (sym fewer.0.id ∙ here.0, omega arith)
-has_carrier_was (set ∷ old) (set' ∷ new) fewer id (inr later) = inr (has_carrier_was old new fewer.1 id later)
+has_carrier_was : (k : ℕ) (old new : List ReadSet) → AllLose k old new → (id : ℕ) → HasCarrier new id → HasCarrier old id
+has_carrier_was k [] [] lose id has = has
+has_carrier_was k [] (set' ∷ new) lose id has = absurd lose
+has_carrier_was k (set ∷ old) [] lose id has = absurd has
+has_carrier_was k (set ∷ old) (set' ∷ new) lose id (inl here) = let less = lose.0.carriers in let some = here.1 in inl (sym lose.0.id ∙ here.0, omega arith)
+has_carrier_was k (set ∷ old) (set' ∷ new) lose id (inr later) = inr (has_carrier_was k old new lose.1 id later)
 
-module _ (k : ℕ) (uploads : List ℕ) (old new : List ReadSet) (some : 0 < k) (notes : NotesAreOne k old) (loses : LosesUnneeded k uploads old new) where
+module _ (k : ℕ) (uploads : List ℕ) (old new : List ReadSet) (some : 0 < k) (notes : NotesAreOne k old) (lose : AllLose k old new) (enough : AreEnough k uploads old new) where
   whole : Thin k uploads old [] (records_of k old) (records_of k new)
-  whole = thin k uploads old some old new [] refl (λ id has. has) loses.fewer loses.enough
+  whole = thin k uploads old some old new [] refl (λ id has. has) lose enough
+
+  -- Of a set with a carrier no more and no fewer records are kept.
+  pub kept_stays : (target : ℕ) → HasCarrier old target → kept_by target (valid k new) ≡ kept_by target (valid k old)
+  kept_stays target there = kept_the_same k uploads old target old new [] there whole
 
   stand_in : StandsIn k uploads old [] (IsUnneeded k uploads old) (λ item. ⊥)
   stand_in = nothing_stands_in k uploads old
@@ -133,7 +165,7 @@ module _ (k : ℕ) (uploads : List ℕ) (old new : List ReadSet) (some : 0 < k) 
                 wanted.1 still.0 (contains_from_among needed.before still.0 still.1) still.2,
           )
       why (inr last) =
-          let has = has_carrier_was old new loses.fewer last.0 last.3 in
+          let has = has_carrier_was k old new lose last.0 last.3 in
           inr (
             last.0,
             last.1,
@@ -146,7 +178,7 @@ module _ (k : ℕ) (uploads : List ℕ) (old new : List ReadSet) (some : 0 < k) 
                 last.4 there.0 (contains_from_among needed.after there.0 there.1) (least.0, omega arith, there.2),
           )
 
-  says_the_same : SaysTheSame k uploads old new
+  pub says_the_same : SaysTheSame k uploads old new
   says_the_same =
       let same : (name : List ℕ) → value_in k new name ≡ value_in k old name = (λ name. value_stays uploads (items_of (records_of k old)) (items_of (records_of k new)) keeps name) in
       record {
@@ -157,7 +189,7 @@ module _ (k : ℕ) (uploads : List ℕ) (old new : List ReadSet) (some : 0 < k) 
       }
 
 pub unneeded_sets_may_go : UnneededSetsMayGo
-unneeded_sets_may_go k uploads old new some notes loses = says_the_same k uploads old new some notes loses
+unneeded_sets_may_go k uploads old new some notes loses = says_the_same k uploads old new some notes (all_lose_carriers k old new loses.fewer) loses.enough
 
 -- Losses add up.
 fewer_still : (old mid new : List ReadSet) → AllZip LosesCarriers old mid → AllZip LosesCarriers mid new → AllZip LosesCarriers old new
