@@ -2,7 +2,7 @@
 use Rattle.std.proofs.Common.{◌≡◌, ℕ, zero, suc, ◌+◌, ◌-◌, ◌*◌, ◌%◌, ◌<◌, Bool, true, false, cond, ◌⊎◌, inl, inr, List, [], ◌∷◌, length, map, take, drop, Option, Some, None, Contains, refl, sym, ap, ap₂, ◌∙◌, subst, arith}
 use Rattle.std.specs.Prelude.{filter, is_some, is_none}
 use Rattle.std.specs.List.{AllByRecursion, find, filter_map, cons_option, range_with_len}
-use Rattle.std.proofs.lemmas.Bool.{and_from, le-leb, lt-ltb, eq-eqb, cond-true}
+use Rattle.std.proofs.lemmas.Bool.{true≢false, and_from, le-leb, lt-ltb, eq-eqb, cond-true}
 use Rattle.std.proofs.lemmas.List.{take_all}
 use Rattle.smore_base.specs.Geometry.{IsWithinLimits, first_fault, fits_k, fits_p, fits_drives, fits_zones, fits_blocks, fits_shard}
 use Rattle.smore_base.specs.declared.geometry.Geometry.{Geometry}
@@ -20,13 +20,14 @@ use Rattle.array_model.specs.Sets.{valid, placed}
 use Rattle.array_model.specs.Map.{items_of, map_of}
 use Rattle.array_model.specs.Drives.{Place, bytes_at, first_of, head_at, is_of, is_among, is_label_of_bay, label_on, drives_of, is_present, present, labels, places_on}
 use Rattle.array_model.specs.Reading.{Carrier, carries, carrier_of, fragments_of, read_set, with_head, ids_at, read_of}
-use Rattle.array_model.specs.Enough.{IsLeftAfter}
-use Rattle.array_model.specs.Kept.{HaveOneList, carriers_in, CarriersAgree, ClosedStand, AreCopies, OneIsUnsettled, CutsKeepReady, CutsFit, LabelsAreOf, EndsAreFound, TakesFewer, EachZone, ShowsKept, label_of, HasShape, IsFormatted}
+use Rattle.array_model.specs.Enough.{IsLeftAfter, outside, set_beside, read_beside}
+use Rattle.array_model.specs.Kept.{HaveOneList, carriers_in, CarriersAgree, ClosedStand, AreCopies, OneIsUnsettled, CutsKeepReady, CutsFit, LabelsAreOf, EndsAreFound, TakesFewer, EachZone, IndexesAreAlone, FitsBeside, ShowsKept, label_of, HasShape, IsFormatted}
 use Rattle.array_model.specs.ReadingLaws.{FormattedIsPresent, FormattedIsKept, FormattedIsEmpty}
 use Rattle.array_model.proofs.Records.{Among, among_from_contains}
 use Rattle.array_model.proofs.Carriers.{held_without, label_in, label_on-is, label_in-is, label_in-own, no_label, places_of}
 use Rattle.array_model.proofs.SameZones.{all-append, all-map}
 use Rattle.array_model.proofs.Fallen.{nothing_whole}
+use Rattle.array_model.proofs.Payloads.{at_among}
 
 -- ---- what remains holds labels alone
 
@@ -199,6 +200,31 @@ module _ (array : Array) (shape : Shape) (held : Contents) (fits : HasShape arra
   each_zone : (P : List ℕ → Type 0) → P [] → EachZone shape held P
   each_zone P here = all-map IsEmpty (λ place. P (bytes_at held place)) (places_on shape (present shape held [])) (λ place empty. subst P (sym empty) here) (all_empty (present shape held []))
 
+  alone : IndexesAreAlone array shape held
+  alone set index one other found also is as_well =
+      let places = places_on shape (present shape held []) in
+      let empty : IsEmpty one = at_among IsEmpty places one (all_empty (present shape held [])) (among_from_contains places one found) in
+      let none : is_of set index (head_at array held one) ≡ false = ap (is_of set index) (no_head one empty) in
+      absurd (true≢false (sym is ∙ none))
+
+  -- Nothing is read beside any drives,
+  none_beside : (leaving : List ℕ) → read_beside array shape held leaving ≡ []
+  none_beside leaving = ap (λ sets. map (set_beside array held (places_on shape (outside leaving (present shape held []))) sets) sets) nothing_read
+
+  -- so it fits.
+  nothing_beside : (leaving : List ℕ) → FitsBeside array shape held leaving
+  nothing_beside leaving =
+      let k = array.geometry.k in
+      record {
+        settled = λ set found. absurd (omega (arith, subst (λ sets. Contains sets set) nothing_read found));
+        cuts = subst (CutsFit k) (sym (none_beside leaving)) (λ set kept found. absurd (omega (arith, found.1)));
+        payloads = λ set found. absurd (omega (arith, subst (λ sets. Contains (valid k sets) set) (none_beside leaving) found));
+        copies = subst (λ sets. AreCopies (items_of (placed (valid k sets)))) (sym (none_beside leaving)) record {
+          notes = λ stamp one other found. absurd (omega (arith, found.1));
+          parts = λ upload part one other found. absurd (omega (arith, found.1));
+        };
+      }
+
   -- So what it shows is kept.
   pub shows_kept : ShowsKept array shape held
   shows_kept =
@@ -216,6 +242,8 @@ module _ (array : Array) (shape : Shape) (held : Contents) (fits : HasShape arra
         blocks = each_zone (TakesFewer array shape.blocks) (λ some. absurd (omega (arith, some, ap length (nothing_whole array))));
         ready = subst (CutsKeepReady k) (sym nothing_read) (λ set cut kept found. absurd (omega (arith, found.1)));
         cuts = subst (CutsFit k) (sym nothing_read) (λ set kept found. absurd (omega (arith, found.1)));
+        alone = alone;
+        beside = λ leaving enough. nothing_beside leaving;
       }
 
 pub formatted_is_kept : FormattedIsKept

@@ -31,6 +31,10 @@ reading_beside array shape held drives leaving =
     let sets = reading array shape held drives in
     map (set_beside array held (places_on shape (outside leaving drives)) sets) sets
 
+-- What is read of an array beside drives that leave.
+abbrev pub read_beside : Array → Shape → Contents → List ℕ → List ReadSet
+read_beside array shape held leaving = reading_beside array shape held (present shape held []) leaving
+
 -- the set holds a record that is needed, in what is read of the array or beside the drives that leave
 abbrev pub IsNeededBeside : Array → Shape → List ℕ → Contents → List ℕ → ℕ → Type 0
 IsNeededBeside array shape uploads held leaving set =

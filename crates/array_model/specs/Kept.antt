@@ -13,12 +13,12 @@ use Rattle.marker_format.specs.Marker.{IsMarker}
 use Rattle.marker_format.specs.Block.{label_block, foot_block, marker_block}
 use Rattle.marker_format.specs.Zone.{Array, block_at, end_from, has_kind, begun, foot_follows, has_foot, trailer_follows, whole_records}
 use Rattle.array_model.specs.Payload.{AreFragments, fragment_of}
-use Rattle.array_model.specs.Drives.{present, labels, places_on, bytes_at, records_at}
+use Rattle.array_model.specs.Drives.{Place, is_of, present, labels, places_on, bytes_at, records_at, head_at}
 use Rattle.array_model.specs.Reading.{Carrier, fragments_of, carriers_of, IsPrefixAlike, agreed, fragment_on, read_of}
 use Rattle.array_model.specs.Record.{Record, Part, Put, Delete, Cut, is_ready}
 use Rattle.array_model.specs.Sets.{ReadSet, ValidSet, Placed, stands, valid, kept_by, records_of}
 use Rattle.array_model.specs.Map.{items_of}
-use Rattle.array_model.specs.Enough.{is_settled, IsRemains}
+use Rattle.array_model.specs.Enough.{is_settled, read_beside, IsEnough, IsRemains}
 
 -- ---- carriers of a set
 
@@ -50,6 +50,14 @@ pub record CarriersAgree (array : Array) (shape : Shape) (held : Contents) : Typ
   pub lists : (set : ℕ) → HaveOneList array held (carriers_in array shape held set)
   pub payloads : (set : ValidSet) → Contains (valid array.geometry.k (read_of array shape held)) set
       → HavePayloads array held (carriers_in array shape held set.id) (length set.records)
+
+-- No two drives have a zone with a whole head of one index of a set. (Else, where the drive of the carrier leaves, the other
+-- zone takes its place, with records that need not be those that were read.)
+abbrev pub IndexesAreAlone : Array → Shape → Contents → Type 0
+IndexesAreAlone array shape held =
+    let places = places_on shape (present shape held []) in
+    (set index : ℕ) (one other : Place) → Contains places one → Contains places other
+    → is_of set index (head_at array held one) ≡ true → is_of set index (head_at array held other) ≡ true → one.device ≡ other.device
 
 -- ---- sets
 
@@ -88,6 +96,20 @@ CutsKeepReady k sets =
 abbrev pub CutsFit : ℕ → List ReadSet → Type 0
 CutsFit k sets =
     (set : ReadSet) (kept : ℕ) → Contains sets set → stands k set ≡ true → kept_by set.id (valid k sets) ≡ Some kept → kept ≤ length set.records
+
+-- What is read beside drives that leave fits what is read now. (Else a record that is read beside them alone, as one of a set
+-- that comes to stand, may cut off the cut that settled another set, and the carriers of that one may say what none said.)
+pub record FitsBeside (array : Array) (shape : Shape) (held : Contents) (leaving : List ℕ) : Type 0 where
+  -- A set that is settled is settled then,
+  pub settled : (set : ReadSet) → Contains (read_of array shape held) set → is_settled array.geometry.k (read_of array shape held) set ≡ true
+      → is_settled array.geometry.k (read_beside array shape held leaving) set ≡ true
+  -- a cut that is valid then keeps no more of a set than there is,
+  pub cuts : CutsFit array.geometry.k (read_beside array shape held leaving)
+  -- the carriers' fragments of each record that is valid then are those of one payload,
+  pub payloads : (set : ValidSet) → Contains (valid array.geometry.k (read_beside array shape held leaving)) set
+      → HavePayloads array held (carriers_in array shape held set.id) (length set.records)
+  -- and notes with one stamp are copies then, and parts with one upload and number.
+  pub copies : AreCopies (items_of (records_of array.geometry.k (read_beside array shape held leaving)))
 
 -- ---- labels and zones
 
@@ -159,6 +181,10 @@ pub record ShowsKept (array : Array) (shape : Shape) (held : Contents) : Type 0 
   pub ready : CutsKeepReady array.geometry.k (read_of array shape held)
   -- and no more records than there are.
   pub cuts : CutsFit array.geometry.k (read_of array shape held)
+  -- An index of a set has zones on one drive,
+  pub alone : IndexesAreAlone array shape held
+  -- and what is read beside drives that leave with enough fits.
+  pub beside : (leaving : List ℕ) → IsEnough array shape [] held leaving → FitsBeside array shape held leaving
 
 -- An array is kept where all that remains of it shows so.
 abbrev pub IsKept : Array → Shape → Contents → Type 0
