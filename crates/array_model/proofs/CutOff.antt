@@ -65,7 +65,7 @@ module _ (k : ℕ) where
   same_where_kept (set ∷ old) (set' ∷ new) same = read_kept set set' old new same.0 (same_where_kept old new same.1) (stands k set) (stands k set') refl refl
 
   -- A record of sets at the top stays one with sets below.
-  among_more : (set : ReadSet) (above : List ReadSet) (it : Placed) → Among it (records_of k above) → Among it (records_of k (set ∷ above))
+  pub among_more : (set : ReadSet) (above : List ReadSet) (it : Placed) → Among it (records_of k above) → Among it (records_of k (set ∷ above))
   among_more set above it found = by_standing (stands k set) refl
     where
       by_standing : (b : Bool) → stands k set ≡ b → Among it (records_of k (set ∷ above))

@@ -26,6 +26,12 @@ pub mod Fragments
 pub mod Settled
 pub mod SettledRecords
 pub mod Flash
-pub mod Tests
-pub mod NeedTests
+pub mod Above
+pub mod Beside
 pub mod Cleaning
+pub mod CutsRead
+pub mod NeedTests
+pub mod Removal
+pub mod SetsRead
+pub mod Staying
+pub mod Tests

@@ -91,7 +91,7 @@ module _ (array : Array) (held other : Contents) where
       (closed-same carriers same)
 
   -- a carrier is one of the places, with a head of its set and index
-  carrier_among : (P : Place → Type 0) (places : List Place) (set index : ℕ) (carrier : Carrier) → AllByRecursion P places → carrier_of array held places set index ≡ Some carrier → (is_of set index (head_at array held carrier.place) ≡ true) × P carrier.place
+  pub carrier_among : (P : Place → Type 0) (places : List Place) (set index : ℕ) (carrier : Carrier) → AllByRecursion P places → carrier_of array held places set index ≡ Some carrier → (is_of set index (head_at array held carrier.place) ≡ true) × P carrier.place
   carrier_among P places set index carrier all e = find-is (λ place. is_of set index (head_at array held place)) P places carrier.place all (carries_some index _ carrier e).0
 
   pub carriers_among : (P : Place → Type 0) (places : List Place) (set : ℕ) → AllByRecursion P places → ((place : Place) (index : ℕ) → is_of set index (head_at array held place) ≡ true → P place → IsSame place) → AreSame (carriers_of array held places set)
@@ -131,10 +131,10 @@ module _ (array : Array) (held other : Contents) where
 -- ---- what is left
 
 -- the place holds what it held before the devices left
-abbrev StillHolds : Contents → List ℕ → Place → Type 0
+abbrev pub StillHolds : Contents → List ℕ → Place → Type 0
 StillHolds held leaving place = bytes_at (without_each leaving held) place ≡ bytes_at held place
 
-staying_same : (shape : Shape) (held : Contents) (leaving drives : List ℕ) → AllByRecursion (StillHolds held leaving) (places_on shape (outside leaving drives))
+pub staying_same : (shape : Shape) (held : Contents) (leaving drives : List ℕ) → AllByRecursion (StillHolds held leaving) (places_on shape (outside leaving drives))
 staying_same shape held leaving [] = tt
 staying_same shape held leaving (drive ∷ drives) = at_one (is_among leaving drive) refl (staying_same shape held leaving drives)
   where

@@ -133,7 +133,7 @@ closed_alike array one other all one_foot other_foot p q = elim (one_in_other (m
 
 -- ---- all carriers
 
-all_closed : (array : Array) (held : Contents) (carriers : List Carrier) (carrier : Carrier) → are_closed array held carriers ≡ true → Among carrier carriers → has_foot array (bytes_at held carrier.place) ≡ true
+pub all_closed : (array : Array) (held : Contents) (carriers : List Carrier) (carrier : Carrier) → are_closed array held carriers ≡ true → Among carrier carriers → has_foot array (bytes_at held carrier.place) ≡ true
 all_closed array held [] carrier closed found = absurd found
 all_closed array held (c ∷ carriers) carrier closed (inl is) = ap (λ (x : Carrier). has_foot array (bytes_at held x.place)) (sym is) ∙ (and_parts _ _ closed).0
 all_closed array held (c ∷ carriers) carrier closed (inr later) = all_closed array held carriers carrier (and_parts _ _ closed).1 later
@@ -155,14 +155,14 @@ alike_both one other p q = nothing p.0 p.1
         absurd (omega (arith, ap length e, ap length q.1, length-append (map alike one) (x ∷ rest), length-append (map alike other) q.0))
 
 -- Carriers that are all alike agree on what each has.
-agreed_alike : (array : Array) (held : Contents) (some : List Carrier) (c : Carrier) → Among c some → ((other : Carrier) → Among other some → map alike (records_at array held other.place) ≡ map alike (records_at array held c.place)) → map alike (agreed array held some) ≡ map alike (records_at array held c.place)
+pub agreed_alike : (array : Array) (held : Contents) (some : List Carrier) (c : Carrier) → Among c some → ((other : Carrier) → Among other some → map alike (records_at array held other.place) ≡ map alike (records_at array held c.place)) → map alike (agreed array held some) ≡ map alike (records_at array held c.place)
 agreed_alike array held some c there same =
     alike_both (agreed array held some) (records_at array held c.place)
     (held_by_each array held some c there)
     (agreed_is_longest array held some (records_at array held c.place) (let found = contains_from_among some c there in omega (arith, found.1))
     (λ other found. ([], same other (among_from_contains some other found) ∙ sym (append-nil (map alike (records_at array held c.place))))))
 
-first_among : (some : List Carrier) → 0 < length some → (c : Carrier) × Among c some
+pub first_among : (some : List Carrier) → 0 < length some → (c : Carrier) × Among c some
 first_among [] there = absurd (omega (arith, there))
 first_among (c ∷ some) there = (c, inl refl)
 

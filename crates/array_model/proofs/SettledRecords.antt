@@ -48,7 +48,7 @@ record_aside m payload = elim (cases_Bool (eqb m.kind 1)) [
       ∙ without_index (kind_of m.kind) m payload
 ]
 
-same_record_by : (x y : Marker) (payload : List ℕ) → aside x ≡ aside y → record_by (kind_of x.kind) x payload ≡ record_by (kind_of y.kind) y payload
+pub same_record_by : (x y : Marker) (payload : List ℕ) → aside x ≡ aside y → record_by (kind_of x.kind) x payload ≡ record_by (kind_of y.kind) y payload
 same_record_by x y payload same =
     sym (record_aside x payload)
     ∙ ap (λ (m : Marker). record_by (kind_of m.kind) m payload) same
@@ -79,7 +79,7 @@ take_records array held carriers zero block ms = refl
 take_records array held carriers (suc n) block [] = refl
 take_records array held carriers (suc n) block (m ∷ ms) = ap (λ l. record_by (kind_of m.kind) m (payload_of array held carriers block m) ∷ l) (take_records array held carriers n (block + blocks_of m) ms)
 
-all_front : (P : Marker → Type 0) (xs ys : List Marker) → AllByRecursion P (xs ++ ys) → AllByRecursion P xs
+pub all_front : (P : Marker → Type 0) (xs ys : List Marker) → AllByRecursion P (xs ++ ys) → AllByRecursion P xs
 all_front P [] ys all = tt
 all_front P (x ∷ xs) ys all = (all.0, all_front P xs ys all.1)
 
@@ -88,7 +88,7 @@ all_taken P zero xs all = tt
 all_taken P (suc n) [] all = tt
 all_taken P (suc n) (x ∷ xs) all = (all.0, all_taken P n xs all.1)
 
-agreed_markers : (array : Array) (held : Contents) (carriers : List Carrier) → AllByRecursion IsMarker (agreed array held carriers)
+pub agreed_markers : (array : Array) (held : Contents) (carriers : List Carrier) → AllByRecursion IsMarker (agreed array held carriers)
 agreed_markers array held [] = tt
 agreed_markers array held (c ∷ []) = all_markers array (bytes_at held c.place) (records_at array held c.place) None 0 (whole_stand array (bytes_at held c.place))
 agreed_markers array held (c ∷ d ∷ carriers) =
@@ -99,7 +99,7 @@ end_behind : (block : ℕ) (before : List Marker) (m : Marker) → end_from bloc
 end_behind block [] m = refl
 end_behind block (x ∷ before) m = end_behind (block + blocks_of x) before m
 
-all_from_among : {X : Type 0} (P : X → Type 0) (xs : List X) → ((x : X) → Among x xs → P x) → AllByRecursion P xs
+pub all_from_among : {X : Type 0} (P : X → Type 0) (xs : List X) → ((x : X) → Among x xs → P x) → AllByRecursion P xs
 all_from_among P [] each = tt
 all_from_among P (x ∷ xs) each = (each x (inl refl), all_from_among P xs (λ y found. each y (inr found)))
 
@@ -143,14 +143,18 @@ module _ (array : Array) (held : Contents) (places those : List Place) (set : �
       (same_payloads kept have kept [] (agreed array held all) refl (omega arith))
       ∙ sym (take_records array held all kept 0 (agreed array held all))
 
-  pub closed_same : HaveOneList array held all → are_closed array held all ≡ true → HavePayloads array held all (length (agreed array held all)) → (read_set array held places set).records ≡ (read_set array held those set).records
-  closed_same lists closed have =
+  -- Where both agree on the same markers all records are the same.
+  pub alike_same : map alike (agreed array held few) ≡ map alike (agreed array held all) → HavePayloads array held all (length (agreed array held all)) → (read_set array held places set).records ≡ (read_set array held those set).records
+  alike_same same have =
       let long = length (agreed array held all) in
       same_records array held few all 0 (agreed array held few) (agreed array held all)
-      (closed_reads_the_same array held few all keeps.some lists closed)
+      same
       (agreed_markers array held few)
       (agreed_markers array held all)
       (subst (SamePayloads array held few all 0) (take_all long (agreed array held all) (omega arith)) (same_payloads long have long [] (agreed array held all) refl (omega arith)))
+
+  pub closed_same : HaveOneList array held all → are_closed array held all ≡ true → HavePayloads array held all (length (agreed array held all)) → (read_set array held places set).records ≡ (read_set array held those set).records
+  closed_same lists closed have = alike_same (closed_reads_the_same array held few all keeps.some lists closed) have
 
 pub kept_is_read_from_some : KeptIsReadFromSome
 kept_is_read_from_some array held places those set kept keeps fits have = kept_same array held places those set keeps kept fits have

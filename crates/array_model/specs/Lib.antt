@@ -13,3 +13,4 @@ pub mod Cleaning
 pub mod NeedLaws
 pub mod Kept
 pub mod ReadingLaws
+pub mod RemovalLaws

@@ -5,6 +5,7 @@
 mod laws;
 mod need_laws;
 mod reading_laws;
+mod removal_laws;
 
 pub use laws::{
     copies_change_nothing, dropped_set_is_gone, map_is_what_is_read, newest_note_is_greatest,
@@ -17,3 +18,4 @@ pub use reading_laws::{
     payloads_are_read, sets_rise, settled_sets_agree, settled_sets_read_the_same,
     what_stays_is_read,
 };
+pub use removal_laws::{cuts_are_of_lower, one_removal};
