@@ -34,4 +34,8 @@ pub mod NeedTests
 pub mod Removal
 pub mod SetsRead
 pub mod Staying
+pub mod Above
+pub mod Beside
+pub mod Remains
+pub mod Removal
 pub mod Tests

@@ -1,12 +1,14 @@
 -- Laws of removals: what is read of an array once drives have left, and what remains after any removals.
-use Rattle.std.specs.Prelude.{ℕ, List}
+use Rattle.std.specs.Prelude.{◌≡◌, ℕ, List, []}
+use Rattle.smore_base.specs.Objects.{Map}
 use Rattle.zone_bay.specs.Contents.{Shape, Contents}
 use Rattle.zone_bay.specs.Images.{without_each}
 use Rattle.marker_format.specs.Zone.{Array}
 use Rattle.array_model.specs.Reading.{reading, read_of}
+use Rattle.array_model.specs.Map.{map_of}
 use Rattle.array_model.specs.SetLaws.{CutsAreOfLower, SaysTheSame}
-use Rattle.array_model.specs.Enough.{read_beside, IsEnough}
-use Rattle.array_model.specs.Kept.{ShowsKept}
+use Rattle.array_model.specs.Enough.{read_beside, IsEnough, IsRemains, IsPossibleMap}
+use Rattle.array_model.specs.Kept.{ShowsKept, IsKept}
 
 -- Each valid cut that is read is of a lower set than the one that it stands in,
 abbrev pub CutsReadAreOfLower : Type 0
@@ -24,3 +26,44 @@ abbrev pub OneRemoval : Type 0
 OneRemoval = (array : Array) (shape : Shape) (uploads : List ℕ) (held : Contents) (leaving : List ℕ)
     → ShowsKept array shape held → IsEnough array shape uploads held leaving
     → SaysTheSame array.geometry.k uploads (read_beside array shape held leaving) (read_of array shape (without_each leaving held))
+
+-- ---- any removals
+
+-- An image remains of itself,
+abbrev pub ImageRemains : Type 0
+ImageRemains = (array : Array) (shape : Shape) (image : Contents) → IsRemains array shape image image
+
+-- what is left of a remains where drives leave with enough is one,
+abbrev pub RemovalLeavesRemains : Type 0
+RemovalLeavesRemains = (array : Array) (shape : Shape) (image held : Contents) (leaving : List ℕ)
+    → IsRemains array shape image held → IsEnough array shape [] held leaving → IsRemains array shape image (without_each leaving held)
+
+-- and so is what remains of one.
+abbrev pub RemainsFollow : Type 0
+RemainsFollow = (array : Array) (shape : Shape) (image mid left : Contents)
+    → IsRemains array shape image mid → IsRemains array shape mid left → IsRemains array shape image left
+
+-- So what remains of a kept array is kept.
+abbrev pub RemainsAreKept : Type 0
+RemainsAreKept = (array : Array) (shape : Shape) (image left : Contents) → IsKept array shape image → IsRemains array shape image left → IsKept array shape left
+
+-- A property that each removal with enough keeps, from what remains of an image, holds of each remains.
+abbrev pub HoldsOfRemains : (Array → Shape → Contents → Type 0) → Type 0
+HoldsOfRemains holds = (array : Array) (shape : Shape) (image : Contents) → holds array shape image
+    → ((held : Contents) (leaving : List ℕ) → IsRemains array shape image held → holds array shape held → IsEnough array shape [] held leaving
+    → holds array shape (without_each leaving held))
+    → (left : Contents) → IsRemains array shape image left → holds array shape left
+
+-- An array is kept that shows so, where each removal with enough from what remains of it leaves one that shows so,
+abbrev pub KeptByOneRemoval : Type 0
+KeptByOneRemoval = (array : Array) (shape : Shape) (image : Contents) → ShowsKept array shape image
+    → ((held : Contents) (leaving : List ℕ) → IsRemains array shape image held → ShowsKept array shape held → IsEnough array shape [] held leaving
+    → ShowsKept array shape (without_each leaving held))
+    → IsKept array shape image
+
+-- and it has but one possible map where each such removal leaves the map.
+abbrev pub OneMapByOneRemoval : Type 0
+OneMapByOneRemoval = (array : Array) (shape : Shape) (image : Contents) (objects : Map) → objects ≡ map_of array.geometry.k (read_of array shape image)
+    → ((held : Contents) (leaving : List ℕ) → IsRemains array shape image held → objects ≡ map_of array.geometry.k (read_of array shape held)
+    → IsEnough array shape [] held leaving → objects ≡ map_of array.geometry.k (read_of array shape (without_each leaving held)))
+    → (other : Map) → IsPossibleMap array shape image other → other ≡ objects

@@ -4,6 +4,7 @@
 
 mod laws;
 mod need_laws;
+mod property;
 mod reading_laws;
 mod removal_laws;
 
@@ -12,10 +13,13 @@ pub use laws::{
     note_is_last, opening_fixes_what_was_read, records_without_note, unneeded_sets_may_go,
 };
 pub use need_laws::{blocks_are_counted, shelf_has_all, tests_tell_need, victims_are_least};
+pub use property::Property;
 pub use reading_laws::{
     agreed_is_longest, agreed_list_stays, carriers_are_lowest, carriers_stay,
     fallen_sets_say_nothing, flash_may_leave, formatted_arrays_are_kept, markers_agree,
     payloads_are_read, sets_rise, settled_sets_agree, settled_sets_read_the_same,
     what_stays_is_read,
 };
-pub use removal_laws::{cuts_are_of_lower, one_removal};
+pub use removal_laws::{
+    all_removals_keep, cuts_are_of_lower, one_at_a_time, one_removal, removals_follow,
+};

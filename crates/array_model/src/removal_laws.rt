@@ -1,6 +1,8 @@
 //! Laws of removals: what is read once drives have left. These functions do nothing: their contracts are the theorems.
 
-ghost use Rattle.array_model.specs.RemovalLaws.{CutsReadAreOfLower, CutsBesideAreOfLower, OneRemoval};
+ghost use Rattle.array_model.specs.RemovalLaws.{CutsReadAreOfLower, CutsBesideAreOfLower, OneRemoval, ImageRemains, RemovalLeavesRemains, RemainsFollow, RemainsAreKept, HoldsOfRemains, KeptByOneRemoval, OneMapByOneRemoval};
+
+use crate::Property;
 
 /// Each valid cut that is read is of a lower set than the one that it stands in, also beside drives that leave.
 pub fn cuts_are_of_lower()
@@ -11,4 +13,23 @@ pub fn cuts_are_of_lower()
 /// Where drives leave a kept array with enough, what is read of it then says what was read beside them.
 pub fn one_removal()
     ensures { OneRemoval }
+{}
+
+/// What remains after removals with enough, one after another, remains, and of a kept array it is kept.
+pub fn removals_follow()
+    ensures none { ImageRemains }
+    ensures one { RemovalLeavesRemains }
+    ensures more { RemainsFollow }
+    ensures kept { RemainsAreKept }
+{}
+
+/// So what each removal with enough keeps holds of each remains, whatever property of arrays it is.
+pub fn all_removals_keep<P: Property>()
+    ensures { HoldsOfRemains P.holds }
+{}
+
+/// Two such properties: that an array is kept, and that it has but one possible map.
+pub fn one_at_a_time()
+    ensures kept { KeptByOneRemoval }
+    ensures map { OneMapByOneRemoval }
 {}
