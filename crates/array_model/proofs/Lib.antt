@@ -37,5 +37,7 @@ pub mod Staying
 pub mod Above
 pub mod Beside
 pub mod Remains
+pub mod Even
+pub mod OneMap
 pub mod Removal
 pub mod Tests

@@ -1,14 +1,16 @@
 -- Laws of removals: what is read of an array once drives have left, and what remains after any removals.
-use Rattle.std.specs.Prelude.{◌≡◌, ℕ, List, []}
+use Rattle.std.specs.Prelude.{◌≡◌, ℕ, ◌≤◌, false, List, [], map, Contains}
 use Rattle.smore_base.specs.Objects.{Map}
 use Rattle.zone_bay.specs.Contents.{Shape, Contents}
 use Rattle.zone_bay.specs.Images.{without_each}
 use Rattle.marker_format.specs.Zone.{Array}
-use Rattle.array_model.specs.Reading.{reading, read_of}
+use Rattle.array_model.specs.Drives.{records_at}
+use Rattle.array_model.specs.Reading.{Carrier, alike, reading, read_of}
+use Rattle.array_model.specs.Sets.{ReadSet}
 use Rattle.array_model.specs.Map.{map_of}
 use Rattle.array_model.specs.SetLaws.{CutsAreOfLower, SaysTheSame}
-use Rattle.array_model.specs.Enough.{read_beside, IsEnough, IsRemains, IsPossibleMap}
-use Rattle.array_model.specs.Kept.{ShowsKept, IsKept}
+use Rattle.array_model.specs.Enough.{is_settled, read_beside, IsEnough, IsRemains, IsPossibleMap}
+use Rattle.array_model.specs.Kept.{carriers_in, ShowsKept, IsKept}
 
 -- Each valid cut that is read is of a lower set than the one that it stands in,
 abbrev pub CutsReadAreOfLower : Type 0
@@ -67,3 +69,23 @@ OneMapByOneRemoval = (array : Array) (shape : Shape) (image : Contents) (objects
     → ((held : Contents) (leaving : List ℕ) → IsRemains array shape image held → objects ≡ map_of array.geometry.k (read_of array shape held)
     → IsEnough array shape [] held leaving → objects ≡ map_of array.geometry.k (read_of array shape (without_each leaving held)))
     → (other : Map) → IsPossibleMap array shape image other → other ≡ objects
+
+-- ---- one possible map
+
+-- the carriers have equal lists of whole records
+abbrev pub HaveEqualLists : Array → Contents → List Carrier → Type 0
+HaveEqualLists array held carriers =
+    (one other : Carrier) → Contains carriers one → Contains carriers other
+    → map alike (records_at array held one.place) ≡ map alike (records_at array held other.place)
+
+-- Of each set with k carriers that isn't settled the carriers have equal lists of whole records.
+abbrev pub UnsettledAreEven : Array → Shape → Contents → Type 0
+UnsettledAreEven array shape held =
+    let sets = read_of array shape held in
+    (set : ReadSet) → Contains sets set → array.geometry.k ≤ set.carriers → is_settled array.geometry.k sets set ≡ false
+    → HaveEqualLists array held (carriers_in array shape held set.id)
+
+-- A kept array of which that holds has its own map as its only possible one.
+abbrev pub OnePossibleMap : Type 0
+OnePossibleMap = (array : Array) (shape : Shape) (held : Contents) (objects : Map) → IsKept array shape held → UnsettledAreEven array shape held
+    → IsPossibleMap array shape held objects → objects ≡ map_of array.geometry.k (read_of array shape held)

@@ -21,5 +21,6 @@ pub use reading_laws::{
     what_stays_is_read,
 };
 pub use removal_laws::{
-    all_removals_keep, cuts_are_of_lower, one_at_a_time, one_removal, removals_follow,
+    all_removals_keep, cuts_are_of_lower, one_at_a_time, one_possible_map, one_removal,
+    removals_follow,
 };

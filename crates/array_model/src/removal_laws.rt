@@ -1,6 +1,6 @@
 //! Laws of removals: what is read once drives have left. These functions do nothing: their contracts are the theorems.
 
-ghost use Rattle.array_model.specs.RemovalLaws.{CutsReadAreOfLower, CutsBesideAreOfLower, OneRemoval, ImageRemains, RemovalLeavesRemains, RemainsFollow, RemainsAreKept, HoldsOfRemains, KeptByOneRemoval, OneMapByOneRemoval};
+ghost use Rattle.array_model.specs.RemovalLaws.{CutsReadAreOfLower, CutsBesideAreOfLower, OneRemoval, ImageRemains, RemovalLeavesRemains, RemainsFollow, RemainsAreKept, HoldsOfRemains, KeptByOneRemoval, OneMapByOneRemoval, OnePossibleMap};
 
 use crate::Property;
 
@@ -32,4 +32,9 @@ pub fn all_removals_keep<P: Property>()
 pub fn one_at_a_time()
     ensures kept { KeptByOneRemoval }
     ensures map { OneMapByOneRemoval }
+{}
+
+/// A kept array whose sets that aren't settled have equal lists on their carriers has its own map as its only possible one.
+pub fn one_possible_map()
+    ensures { OnePossibleMap }
 {}
