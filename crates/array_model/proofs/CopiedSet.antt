@@ -1,52 +1,21 @@
 -- Copies make nothing else needed.
-use Rattle.std.proofs.Common.{◌≡◌, ℕ, ◌+◌, ◌<◌, Bool, false, cond, count_by, List, [], ◌∷◌, ◌++◌, Option, Some, None, is_some, Contains, ◌⊎◌, inl, inr, ⊎_elim, refl, sym, ap, ◌∙◌, subst, arith}
+use Rattle.std.proofs.Common.{◌≡◌, ℕ, ◌+◌, ◌<◌, cond, count_by, List, ◌++◌, Option, Some, None, is_some, Contains, inl, inr, ⊎_elim, refl, sym, ap, ◌∙◌, subst, arith}
 use Rattle.std.specs.List.{AllByRecursion}
 use Rattle.std.proofs.lemmas.Option.{same_Some}
 use Rattle.std.proofs.lemmas.List.Sums.{sum_by-append}
 use Rattle.array_model.specs.Record.{Record, Part, Put, Delete, Cut, Snapshot}
-use Rattle.array_model.specs.Sets.{ReadSet, Placed, AreRising, records_of, HasCarrier}
+use Rattle.array_model.specs.Sets.{ReadSet, Placed, AreRising, records_of}
 use Rattle.array_model.specs.Map.{items_of, newest}
 use Rattle.array_model.specs.Need.{IsNeeded, IsWanted}
 use Rattle.array_model.specs.SetLaws.{Appends, CutsAreOfLower, IsCopyOfNeeded, CopiesMakeNothingNeeded, CopiedSetHasCopies}
 use Rattle.array_model.proofs.Records.{Among, among_from_contains, contains_from_among, among_joined, among_first, among_rest, newest_is_note, no_newest}
 use Rattle.array_model.proofs.Behind.{all_among}
-use Rattle.array_model.proofs.Thinned.{counted, item_among}
+use Rattle.array_model.proofs.Thinned.{item_among}
 use Rattle.array_model.proofs.Notes.{is_note}
 use Rattle.array_model.proofs.Snapshots.{complete_among}
-use Rattle.array_model.proofs.Sets.{items_joined}
 use Rattle.array_model.proofs.Appended.{extra_of, items_extra, extra_in, read_places}
+use Rattle.array_model.proofs.NeededBefore.{needed_before, count_none}
 use Rattle.array_model.proofs.Copies.{copy_there, copy_wanted, copied_newest, newest_copied, copies_cut_nothing}
-
--- A record among joined records stands in the first of them, or in the rest.
-split_joined : {X : Type 0} (before : List X) (it : X) (after first rest : List X) → first ++ rest ≡ before ++ it ∷ after → ((more : List X) × (first ≡ before ++ it ∷ more) × (after ≡ more ++ rest)) ⊎ Among it rest
-split_joined [] it after [] rest is = inr (subst (λ r. Among it r) (sym is) (inl refl))
-split_joined [] it after (x ∷ first) rest is =
-    let head : x ≡ it = cc in
-    let tail : first ++ rest ≡ after = cc in
-    inl (first, ap (λ y. y ∷ first) head, sym tail)
-split_joined (b ∷ before) it after [] rest is = inr (subst (λ r. Among it r) (sym is) (inr (among_rest before (it ∷ after) it (inl refl))))
-split_joined (b ∷ before) it after (x ∷ first) rest is =
-    let head : x ≡ b = cc in
-    let tail : first ++ rest ≡ before ++ it ∷ after = cc in
-    elim (split_joined before it after first rest tail) [
-      | inl found ↦ inl (found.0, ap (λ f. x ∷ f) found.1 ∙ ap (λ y. y ∷ (before ++ it ∷ found.0)) head, found.2)
-      | inr later ↦ inr later
-    ]
-
--- More records of a set leave its carriers.
-same_carriers : (below : List ReadSet) (top : ReadSet) (more : List Record) (above : List ReadSet) (id : ℕ) → HasCarrier (below ++ record top { records = top.records ++ more } ∷ above) id → HasCarrier (below ++ top ∷ above) id
-same_carriers [] top more above id has = has
-same_carriers (set ∷ below) top more above id (inl here) = inl here
-same_carriers (set ∷ below) top more above id (inr later) = inr (same_carriers below top more above id later)
-
--- None of a kind counts for none.
-count_none : (test : Record → Bool) (items : List Record) → ((item : Record) → Among item items → test item ≡ false) → count_by test items ≡ 0
-count_none test [] none = refl
-count_none test (item ∷ items) none =
-    let one = counted test item items in
-    let here : cond {A = ℕ} (test item) 1 0 ≡ 0 = ap (λ b. cond {A = ℕ} b 1 0) (none item (inl refl)) in
-    let rest = count_none test items (λ other found. none other (inr found)) in
-    omega arith
 
 module _ (k : ℕ) (uploads : List ℕ) (old : List ReadSet) (more : List Record) (copies : AllByRecursion (IsCopyOfNeeded k uploads old) more) where
   abbrev items : List Record
@@ -90,31 +59,10 @@ module _ (k : ℕ) (uploads : List ℕ) (old : List ReadSet) (more : List Record
 
   -- What is needed of a lower set with the copies was needed.
   needed_was : (new : List ReadSet) → AreRising old → CutsAreOfLower k old → (appends : Appends k more old new) → (it : Placed) → it.set < appends.top.id → IsNeeded k uploads new it → IsNeeded k uploads old it
-  needed_was new rising lower appends it below needed = place (split_joined needed.before it needed.after (records_of k old) extra (sym read ∙ needed.valid))
-    where
-      extra : List Placed
-      extra = extra_of appends.top more
-
-      read : records_of k new ≡ records_of k old ++ extra
-      read = read_places k more old new appends (copies_cut_nothing k uploads more old new rising lower appends copies)
-
-      read_items : items_of (records_of k new) ≡ items_of (records_of k old) ++ more
-      read_items = ap items_of read ∙ items_joined (records_of k old) extra ∙ ap (λ r. items_of (records_of k old) ++ r) (items_extra appends.top more)
-
-      has_was : (id : ℕ) → HasCarrier new id → HasCarrier old id
-      has_was id has = subst (λ sets. HasCarrier sets id) (sym appends.was) (same_carriers appends.below appends.top more appends.above id (subst (λ sets. HasCarrier sets id) appends.is has))
-
-      place : ((later : List Placed) × (records_of k old ≡ needed.before ++ it ∷ later) × (needed.after ≡ later ++ extra)) ⊎ Among it extra → IsNeeded k uploads old it
-      place (inr among) = let same = all_among (λ (r : Placed). r.set ≡ appends.top.id) extra it (extra_in appends.top more) among in absurd (omega arith)
-      place (inl found) = record {
-        before = needed.before;
-        after = found.0;
-        valid = found.1;
-        why = ⊎_elim
-            (λ wanted. inl (wanted_was it.item (subst (λ r. IsWanted uploads r it.item) read_items wanted.0), wanted.1))
-            (λ last. inr (last.0, last.1, last.2, has_was last.0 last.3, λ other among cuts. last.4 other (subst (λ r. Contains r other) (sym found.2) (contains_from_among _ other (among_first found.0 extra other (among_from_contains found.0 other among)))) cuts))
-            needed.why;
-      }
+  needed_was new rising lower appends it below needed = ⊎_elim
+      (λ was. was)
+      (λ among. let same = all_among (λ (r : Placed). r.set ≡ appends.top.id) (extra_of appends.top more) it (extra_in appends.top more) among in absurd (omega arith))
+      (needed_before k uploads uploads more old new appends (copies_cut_nothing k uploads more old new rising lower appends copies) (λ item found wanted. wanted_was item wanted) it needed)
 
 pub copies_make_nothing_needed : CopiesMakeNothingNeeded
 copies_make_nothing_needed k uploads more old new it rising lower appends copies below needed = needed_was k uploads old more copies new rising lower appends it below needed

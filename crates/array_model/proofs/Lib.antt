@@ -10,6 +10,7 @@ pub mod Appended
 pub mod Behind
 pub mod Copies
 pub mod Dropped
+pub mod NeededBefore
 pub mod CopiedSet
 pub mod CutOff
 pub mod DroppedSet
@@ -39,5 +40,6 @@ pub mod Beside
 pub mod Remains
 pub mod Even
 pub mod OneMap
+pub mod NoteNeed
 pub mod Removal
 pub mod Tests

@@ -114,6 +114,35 @@ PutNoteIsLast = (k : ℕ) (name : List ℕ) (stamp upload parts bytes : ℕ) (ol
 abbrev pub DeleteNoteIsLast : Type 0
 DeleteNoteIsLast = (k : ℕ) (name : List ℕ) (stamp : ℕ) (old new : List ReadSet) → Appends k (Delete name stamp ∷ []) old new → NoneAbove (items_of (records_of k old)) name stamp → map_of k new ≡ finmap.remove (map_of k old) name
 
+-- each note of the name has a lesser stamp
+abbrev pub AllBelow : List Record → List ℕ → ℕ → Type 0
+AllBelow items name stamp = (item : Record) (its : ℕ) → Contains items item → note_stamp name item ≡ Some its → its < stamp
+
+-- With a put note whose stamp is above those of its name, what is needed is the note, or was needed while its upload was in
+-- progress,
+abbrev pub PutNeedsItsParts : Type 0
+PutNeedsItsParts = (k : ℕ) (uploads name : List ℕ) (stamp upload parts bytes : ℕ) (old new : List ReadSet) (it : Placed) → Appends k (Put name stamp upload parts bytes ∷ []) old new → AllBelow (items_of (records_of k old)) name stamp → IsNeeded k uploads new it → (it.item ≡ Put name stamp upload parts bytes) ⊎ IsNeeded k (upload ∷ uploads) old it
+
+-- and with such a delete note the note, or what was needed.
+abbrev pub DeleteNeedsNothing : Type 0
+DeleteNeedsNothing = (k : ℕ) (uploads name : List ℕ) (stamp : ℕ) (old new : List ReadSet) (it : Placed) → Appends k (Delete name stamp ∷ []) old new → AllBelow (items_of (records_of k old)) name stamp → IsNeeded k uploads new it → (it.item ≡ Delete name stamp) ⊎ IsNeeded k uploads old it
+
+-- a note of this name with this stamp: a put note or a delete note
+abbrev pub IsNote : List ℕ → ℕ → Record → Type 0
+IsNote name stamp note = ((upload : ℕ) × (parts : ℕ) × (bytes : ℕ) × (note ≡ Put name stamp upload parts bytes)) ⊎ (note ≡ Delete name stamp)
+
+-- No other note of its name is needed then,
+abbrev pub OlderNotesUnneeded : Type 0
+OlderNotesUnneeded = (k : ℕ) (uploads name : List ℕ) (stamp : ℕ) (note : Record) (old new : List ReadSet) (it : Placed) (its : ℕ) → IsNote name stamp note → Appends k (note ∷ []) old new → AllBelow (items_of (records_of k old)) name stamp → IsNeeded k uploads new it → note_stamp name it.item ≡ Some its → it.item ≡ note
+
+-- the upload is that of the newest note of another name
+abbrev pub IsUploadOfOther : List ℕ → List Record → ℕ → Type 0
+IsUploadOfOther name items upload = (other : List ℕ) × (stamp : ℕ) × (parts : ℕ) × (bytes : ℕ) × (newest other items ≡ Some (Put other stamp upload parts bytes)) × (other ≡ name → ⊥)
+
+-- and no part of their uploads, if it isn't one of the note, of an upload in progress or of another name's object.
+abbrev pub OlderPartsUnneeded : Type 0
+OlderPartsUnneeded = (k : ℕ) (uploads name : List ℕ) (stamp : ℕ) (note : Record) (old new : List ReadSet) (it : Placed) (upload part : ℕ) (payload : List ℕ) → IsNote name stamp note → Appends k (note ∷ []) old new → AllBelow (items_of (records_of k old)) name stamp → IsNeeded k uploads new it → it.item ≡ Part upload part payload → ((parts : ℕ) × (bytes : ℕ) × (note ≡ Put name stamp upload parts bytes)) ⊎ (Contains uploads upload ⊎ IsUploadOfOther name (items_of (records_of k old)) upload)
+
 -- Each valid cut is of a lower set than the one that it stands in.
 abbrev pub CutsAreOfLower : ℕ → List ReadSet → Type 0
 CutsAreOfLower k sets = (it : Placed) (target kept : ℕ) → Contains (records_of k sets) it → it.item ≡ Cut target kept → target < it.set

@@ -1,6 +1,6 @@
 //! Laws of lists of sets. These functions do nothing: their contracts are the theorems.
 
-ghost use Rattle.array_model.specs.SetLaws.{MapHasWhatIsRead, SameValuesSameMap, NewestIsGreatest, NoNewestNoNote, UnneededSetsMayGo, LossesFollow, FirstNeedIsEnough, RecordsWithoutNote, PutNoteIsLast, DeleteNoteIsLast, CopiesChangeNothing, CopiesMakeNothingNeeded, CopiedSetHasCopies, DroppedSetIsGone, DroppedSetIsEmpty, DroppedSetMayGo, OpeningChangesNothing, OpeningFixesWhatWasRead};
+ghost use Rattle.array_model.specs.SetLaws.{MapHasWhatIsRead, SameValuesSameMap, NewestIsGreatest, NoNewestNoNote, UnneededSetsMayGo, LossesFollow, FirstNeedIsEnough, RecordsWithoutNote, PutNoteIsLast, DeleteNoteIsLast, PutNeedsItsParts, DeleteNeedsNothing, OlderNotesUnneeded, OlderPartsUnneeded, CopiesChangeNothing, CopiesMakeNothingNeeded, CopiedSetHasCopies, DroppedSetIsGone, DroppedSetIsEmpty, DroppedSetMayGo, OpeningChangesNothing, OpeningFixesWhatWasRead};
 
 /// The map has for each name what is read of it, so where the same is read of each name the maps are equal.
 pub fn map_is_what_is_read()
@@ -34,6 +34,15 @@ pub fn records_without_note()
 pub fn note_is_last()
     ensures put { PutNoteIsLast }
     ensures delete { DeleteNoteIsLast }
+{}
+
+/// Such a note, with a stamp above those of its name, makes nothing else needed but the parts of its upload, which were
+/// needed while it was in progress. No other note of its name is needed with it, nor a part of their uploads.
+pub fn note_renews_need()
+    ensures put { PutNeedsItsParts }
+    ensures delete { DeleteNeedsNothing }
+    ensures notes { OlderNotesUnneeded }
+    ensures parts { OlderPartsUnneeded }
 {}
 
 /// Copies of needed records behind those of the highest set that stands leave the map and make nothing needed of the sets
