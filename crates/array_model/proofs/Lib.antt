@@ -35,11 +35,8 @@ pub mod NeedTests
 pub mod Removal
 pub mod SetsRead
 pub mod Staying
-pub mod Above
-pub mod Beside
 pub mod Remains
 pub mod Even
 pub mod OneMap
 pub mod NoteNeed
-pub mod Removal
 pub mod Tests
