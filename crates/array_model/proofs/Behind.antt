@@ -11,7 +11,7 @@ use Rattle.array_model.specs.Map.{items_of, newest, later_note, said_by, value_o
 use Rattle.array_model.specs.Map.{value_in, map_of, with_value}
 use Rattle.array_model.specs.Need.{IsUploadOfNewest}
 use Rattle.array_model.specs.SetLaws.{Appends, IsWithoutNote, RecordsWithoutNote, NoneAbove, PutNoteIsLast, DeleteNoteIsLast}
-use Rattle.array_model.proofs.Records.{Among, contains_from_among, NewestIs, newest_is, the_newest, newest_is_note}
+use Rattle.array_model.proofs.Records.{Among, contains_from_among, NewestIs, newest_is, the_newest, newest_is_note, all_among}
 use Rattle.array_model.proofs.Objects.{SameParts, said_same}
 use Rattle.array_model.proofs.MapLaws.{same_values_same_map, map_has_what_is_read, get_with}
 use Rattle.array_model.proofs.Notes.{put_named}
@@ -47,11 +47,6 @@ part_joined upload part (item ∷ items) more =
 pub or_else_none : (a : Option (List ℕ)) → or_else a None ≡ a
 or_else_none None = refl
 or_else_none (Some x) = refl
-
-pub all_among : {X : Type 0} (P : X → Type 0) (xs : List X) (x : X) → AllByRecursion P xs → Among x xs → P x
-all_among P [] x all found = absurd found
-all_among P (y ∷ xs) x all (inl is) = subst P is all.0
-all_among P (y ∷ xs) x all (inr later) = all_among P xs x all.1 later
 
 -- Records that are no notes have no newest,
 none_newest : (name : List ℕ) (more : List Record) → ((item : Record) → Among item more → note_stamp name item ≡ None) → (found : Option Record) → NewestIs name more found → found ≡ None

@@ -14,7 +14,7 @@ use Rattle.array_model.proofs.SameZones.{ids_rise, left_is_held_before}
 use Rattle.array_model.proofs.CutsRead.{cuts_beside_are_of_lower}
 use Rattle.array_model.proofs.SetsRead.{says_the_same_of}
 use Rattle.array_model.proofs.Staying.{code_within}
-use Rattle.array_model.proofs.Removal.{here, all_lose, rises_by, among_map, map_twice, enough_for_none, notes_are_one, there, now, left, ids, ids_left, nothing_left, valid_left, carriers_left, enough_left, settled_loses}
+use Rattle.array_model.proofs.Removal.{places_now, all_lose, rises_by, among_map, map_twice, enough_for_none, notes_are_one, places_left, set_now, set_left, numbers_now, numbers_left, nothing_left, valid_left, carriers_left, enough_left, settled_loses}
 
 -- A set that stays as it is loses none.
 same_loses : (k : ℕ) (above : List ReadSet) (set : ReadSet) → Loses k above set set
@@ -48,23 +48,23 @@ module _ (array : Array) (shape : Shape) (uploads : List ℕ) (held : Contents) 
   sets = read_of array shape held
 
   abbrev sets_left : List ReadSet
-  sets_left = map (left array shape held leaving) (ids_left array shape held leaving)
+  sets_left = map (set_left array shape held leaving) (numbers_left array shape held leaving)
 
   -- a set as it is read, as the drives that stay have it, and beside the drives; and the numbers of all sets
   abbrev whole : ℕ → ReadSet
-  whole = now array shape held leaving
+  whole = set_now array shape held leaving
 
   abbrev rest : ℕ → ReadSet
-  rest = left array shape held leaving
+  rest = set_left array shape held leaving
 
   abbrev beside : ℕ → ReadSet
-  beside id = set_beside array held (there array shape held leaving) sets (whole id)
+  beside id = set_beside array held (places_left array shape held leaving) sets (whole id)
 
   abbrev numbers : List ℕ
-  numbers = ids array shape held leaving
+  numbers = numbers_now array shape held leaving
 
   all_beside : read_beside array shape held leaving ≡ map beside numbers
-  all_beside = map_twice whole (set_beside array held (there array shape held leaving) sets) numbers
+  all_beside = map_twice whole (set_beside array held (places_left array shape held leaving) sets) numbers
 
   beside_id : (id : ℕ) → (beside id).id ≡ id
   beside_id id = at_one (is_settled k sets (whole id))
@@ -74,7 +74,7 @@ module _ (array : Array) (shape : Shape) (uploads : List ℕ) (held : Contents) 
       at_one false = refl
 
   beside_rises : AreRising (read_beside array shape held leaving)
-  beside_rises = subst AreRising (sym all_beside) (rises_by beside beside_id 0 numbers (ids_rise array held (here array shape held leaving)))
+  beside_rises = subst AreRising (sym all_beside) (rises_by beside beside_id 0 numbers (ids_rise array held (places_now array shape held leaving)))
 
   module _ (shows : ShowsKept array shape held) (enough : IsEnough array shape uploads held leaving) where
     fits : FitsBeside array shape held leaving
@@ -107,7 +107,7 @@ module _ (array : Array) (shape : Shape) (uploads : List ℕ) (held : Contents) 
       | inl none ↦
           let no_beside : read_beside array shape held leaving ≡ [] = all_beside ∙ ap (map beside) none in
           subst₂ (λ old new. SaysTheSame k uploads old new) (sym no_beside) (sym (nothing_left array shape held leaving none)) (nothing_says k uploads)
-      | inr one ↦ says_where_some (code_within array held (here array shape held leaving) one.0 one.1).0
+      | inr one ↦ says_where_some (code_within array held (places_now array shape held leaving) one.0 one.1).0
     ]
 
 pub one_removal : OneRemoval

@@ -8,8 +8,7 @@ use Rattle.array_model.specs.Sets.{ReadSet, Placed, AreRising, records_of}
 use Rattle.array_model.specs.Map.{items_of, newest}
 use Rattle.array_model.specs.Need.{IsNeeded, IsWanted}
 use Rattle.array_model.specs.SetLaws.{Appends, CutsAreOfLower, IsCopyOfNeeded, CopiesMakeNothingNeeded, CopiedSetHasCopies}
-use Rattle.array_model.proofs.Records.{Among, among_from_contains, contains_from_among, among_joined, among_first, among_rest, newest_is_note, no_newest}
-use Rattle.array_model.proofs.Behind.{all_among}
+use Rattle.array_model.proofs.Records.{Among, among_from_contains, contains_from_among, among_joined, among_first, among_rest, newest_is_note, no_newest, all_among}
 use Rattle.array_model.proofs.Thinned.{item_among}
 use Rattle.array_model.proofs.Notes.{is_note}
 use Rattle.array_model.proofs.Snapshots.{complete_among}

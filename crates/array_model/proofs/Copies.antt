@@ -6,14 +6,14 @@ use Rattle.array_model.specs.Sets.{ReadSet, Placed, AreRising, placed_from, Rise
 use Rattle.array_model.specs.Map.{items_of, newest, part_of, or_else, value_of, value_in}
 use Rattle.array_model.specs.Need.{IsNeeded, IsWanted}
 use Rattle.array_model.specs.SetLaws.{Appends, CutsAreOfLower, IsCopyOfNeeded, CopiesChangeNothing}
-use Rattle.array_model.proofs.Records.{Among, among_joined, among_rest, contains_from_among, least_at_most, least_is_there, newest_is_note, newest_bound}
+use Rattle.array_model.proofs.Records.{Among, among_joined, among_rest, contains_from_among, least_at_most, least_is_there, newest_is_note, newest_bound, all_among}
 use Rattle.array_model.proofs.Objects.{SameParts, part_has_first, first_is_there}
 use Rattle.array_model.proofs.MapLaws.{same_values_same_map}
 use Rattle.array_model.proofs.Notes.{put_named, delete_named}
 use Rattle.array_model.proofs.Thinned.{among_items}
 use Rattle.array_model.proofs.Sets.{lesser_none, kept_least, placed_in, cut_records, read_standing, read_fallen}
 use Rattle.array_model.proofs.Appended.{CutNothingOff, read_more}
-use Rattle.array_model.proofs.Behind.{all_among, newest_behind, newest_before, part_joined, value_behind, or_else_none}
+use Rattle.array_model.proofs.Behind.{newest_behind, newest_before, part_joined, value_behind, or_else_none}
 
 -- A needed record is a valid one.
 pub needed_among : (k : ℕ) (uploads : List ℕ) (sets : List ReadSet) (it : Placed) → IsNeeded k uploads sets it → Among it (records_of k sets)

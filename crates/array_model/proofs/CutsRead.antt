@@ -16,10 +16,9 @@ use Rattle.array_model.specs.Sets.{ReadSet, Placed, stands, cut_to, kept_by, pla
 use Rattle.array_model.specs.SetLaws.{CutsAreOfLower}
 use Rattle.array_model.specs.Enough.{is_settled, outside, set_beside}
 use Rattle.array_model.specs.RemovalLaws.{CutsReadAreOfLower, CutsBesideAreOfLower}
-use Rattle.array_model.proofs.Records.{Among, among_from_contains, among_joined}
+use Rattle.array_model.proofs.Records.{Among, among_from_contains, among_joined, all_among}
 use Rattle.array_model.proofs.Sets.{cut_records, read_standing, read_fallen}
 use Rattle.array_model.proofs.Agreed.{common_first}
-use Rattle.array_model.proofs.Behind.{all_among}
 use Rattle.array_model.proofs.SameZones.{all-filter_map, carrier_among}
 use Rattle.array_model.proofs.Settled.{whole_stand}
 use Rattle.array_model.proofs.SettledRecords.{all_front}

@@ -25,7 +25,7 @@ use Rattle.array_model.proofs.Above.{kept_by_above, valid_there}
 use Rattle.array_model.proofs.CutsRead.{cuts_read_are_of_lower}
 use Rattle.array_model.proofs.SetsRead.{read_carrier, says_the_same_of}
 use Rattle.array_model.proofs.Staying.{carriers_were, keeps_enough, code_within, ready_stays, ready_from_first, count_records}
-use Rattle.array_model.proofs.Removal.{all_lose, among_map, notes_are_one, here, there, now, left, ids, ids_left, left_was, valid_left, carriers_left, enough_left, settled_loses}
+use Rattle.array_model.proofs.Removal.{all_lose, among_map, notes_are_one, places_now, places_left, set_now, set_left, numbers_now, numbers_left, left_was_read, valid_left, carriers_left, enough_left, settled_loses}
 
 -- What isn't named and isn't closed isn't settled.
 none_named : (o : Option ℕ) → is_some o ≡ false → o ≡ None
@@ -48,24 +48,24 @@ module _ (array : Array) (shape : Shape) (held : Contents) (leaving : List ℕ) 
   sets = read_of array shape held
 
   abbrev sets_left : List ReadSet
-  sets_left = map (left array shape held leaving) (ids_left array shape held leaving)
+  sets_left = map (set_left array shape held leaving) (numbers_left array shape held leaving)
 
   -- a set as it is read, and as the drives that stay have it; and the numbers of all sets
   abbrev whole : ℕ → ReadSet
-  whole = now array shape held leaving
+  whole = set_now array shape held leaving
 
   abbrev rest : ℕ → ReadSet
-  rest = left array shape held leaving
+  rest = set_left array shape held leaving
 
   abbrev numbers : List ℕ
-  numbers = ids array shape held leaving
+  numbers = numbers_now array shape held leaving
 
   -- the carriers of a set, and those on the drives that stay
   abbrev all : ℕ → List Carrier
-  all id = carriers_of array held (here array shape held leaving) id
+  all id = carriers_of array held (places_now array shape held leaving) id
 
   abbrev few : ℕ → List Carrier
-  few id = carriers_of array held (there array shape held leaving) id
+  few id = carriers_of array held (places_left array shape held leaving) id
 
   there_among : (id : ℕ) → Among id numbers → Contains sets (whole id)
   there_among id found = contains_from_among sets (whole id) (among_map whole numbers id found)
@@ -85,7 +85,7 @@ module _ (array : Array) (shape : Shape) (held : Contents) (leaving : List ℕ) 
     -- Its carriers that stay agree on what all do.
     same_markers : map alike (agreed array held (few id)) ≡ map alike (agreed array held (all id))
     same_markers =
-        let some = (code_within array held (here array shape held leaving) id found).0 in
+        let some = (code_within array held (places_now array shape held leaving) id found).0 in
         let one = first_among (few id) (omega (arith, some, enough)) in
         let mine = few_were id one.0 one.1 in
         let alike_one : (other : Carrier) → Among other (all id) → map alike (records_at array held other.place) ≡ map alike (records_at array held one.0.place) = (λ other among. equal other one.0 (contains_from_among (all id) other among) (contains_from_among (all id) one.0 mine)) in
@@ -115,9 +115,9 @@ module _ (array : Array) (shape : Shape) (held : Contents) (leaving : List ℕ) 
         let none : kept_by id (valid k above) ≡ None = sym (kept_by_above k sets front (whole id) above at (reading_rises array shape held (present shape held [])) (cuts_read_are_of_lower k array shape held (present shape held []))) ∙ unnamed stood in
         let valid_one : ValidSet = record { id = id; records = cut_to (kept_by id (valid k above)) (whole id).records } in
         let have : HavePayloads array held (all id) (length (whole id).records) = subst (λ o. HavePayloads array held (all id) (length (cut_to o (whole id).records))) none (shows.carriers.payloads valid_one (valid_there k sets front (whole id) above at stood)) in
-        let code = code_within array held (here array shape held leaving) id found in
+        let code = code_within array held (places_now array shape held leaving) id found in
         subst (λ o. cut_to o (rest id).records ≡ cut_to o (whole id).records) (sym none)
-        (alike_same array held (there array shape held leaving) (here array shape held leaving) id (keeps_enough array shape held leaving shows.alone id code.0 code.1 enough) same_markers
+        (alike_same array held (places_left array shape held leaving) (places_now array shape held leaving) id (keeps_enough array shape held leaving shows.alone id code.0 code.1 enough) same_markers
         (subst (HavePayloads array held (all id)) (count_records array held (all id) 0 (agreed array held (all id))) have))
 
   unsettled_loses : (front above : List ReadSet) (id : ℕ) → Among id numbers → sets ≡ front ++ whole id ∷ above → is_settled k sets (whole id) ≡ false → Loses k above (whole id) (rest id)
@@ -153,25 +153,25 @@ module _ (array : Array) (shape : Shape) (held : Contents) (leaving : List ℕ) 
     -- and a settled set that keeps k carriers is settled still.
     settled_still : (id : ℕ) → Among id numbers → k ≤ length (few id) → is_settled k sets (whole id) ≡ true → is_settled k sets_left (rest id) ≡ true
     settled_still id found many settled =
-        let code = code_within array held (here array shape held leaving) id found in
+        let code = code_within array held (places_now array shape held leaving) id found in
         let tests = and_parts (stands k (whole id)) _ settled in
         let keeps = keeps_enough array shape held leaving shows.alone id code.0 code.1 many in
-        let carried = read_carrier array held (here array shape held leaving) numbers id found (omega (arith, code.0, keeps.were)) in
+        let carried = read_carrier array held (places_now array shape held leaving) numbers id found (omega (arith, code.0, keeps.were)) in
         let kept : kept_by id (valid k sets_left) ≡ kept_by id (valid k sets) =
         ap (kept_by id) (valid_left array shape held leaving k code.0)
         ∙ kept_stays k [] sets (map rest numbers) code.0 (notes_are_one k sets shows.copies) lose keep id carried in
         and_from _ _
-        (and_from _ _ (le-leb k (length (few id)) many) (ready_stays array held (there array shape held leaving) (here array shape held leaving) id keeps (standing_ready k (whole id) tests.0)))
+        (and_from _ _ (le-leb k (length (few id)) many) (ready_stays array held (places_left array shape held leaving) (places_now array shape held leaving) id keeps (standing_ready k (whole id) tests.0)))
         (elim (or_cases _ _ tests.1) [
           | inl named ↦ or_left _ _ (ap is_some kept ∙ named)
           | inr closed ↦ or_right _ _ (closed_some array held (few id) (all id) (few_were id) closed)
         ])
 
     -- So the sets that aren't settled then are even.
-    pub even_left : (id : ℕ) → Among id (ids_left array shape held leaving) → k ≤ length (few id) → is_settled k sets_left (rest id) ≡ false → HaveEqualLists array held (few id)
+    pub even_left : (id : ℕ) → Among id (numbers_left array shape held leaving) → k ≤ length (few id) → is_settled k sets_left (rest id) ≡ false → HaveEqualLists array held (few id)
     even_left id found many unsettled = elim (cases_Bool (is_settled k sets (whole id))) [
-      | inl settled ↦ absurd (true≢false (sym (settled_still id (left_was array shape held leaving id found) many settled) ∙ unsettled))
-      | inr before ↦ λ one other one_in other_in. equal id (left_was array shape held leaving id found) before many one other (was id one one_in) (was id other other_in)
+      | inl settled ↦ absurd (true≢false (sym (settled_still id (left_was_read array shape held leaving id found) many settled) ∙ unsettled))
+      | inr before ↦ λ one other one_in other_in. equal id (left_was_read array shape held leaving id found) before many one other (was id one one_in) (was id other other_in)
     ]
       where
         was : (id : ℕ) (c : Carrier) → Contains (few id) c → Contains (all id) c

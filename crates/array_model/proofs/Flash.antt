@@ -1,5 +1,5 @@
 -- The flash may always leave: no set has a carrier there.
-use Rattle.std.proofs.Common.{◌≡◌, ℕ, zero, suc, ◌+◌, ◌-◌, ◌<◌, ◌≤◌, Bool, true, false, cond, ◌⊎◌, inl, inr, List, [], ◌∷◌, ◌++◌, length, map, refl, sym, ap, ap₂, subst, arith}
+use Rattle.std.proofs.Common.{◌≡◌, ℕ, zero, suc, ◌+◌, ◌-◌, ◌<◌, ◌≤◌, Bool, true, false, cond, ◌⊎◌, inl, inr, List, [], ◌∷◌, length, map, refl, sym, ap, ap₂, subst, arith}
 use Rattle.std.specs.Prelude.{not, filter}
 use Rattle.std.specs.List.{AllByRecursion, range_with_len}
 use Rattle.std.proofs.lemmas.Bool.{ne_eqb, or_from}
@@ -11,10 +11,9 @@ use Rattle.array_model.specs.Drives.{Place, drives_of, is_among, is_present, pre
 use Rattle.array_model.specs.Reading.{carriers_of, read_set, ids_at, read_of}
 use Rattle.array_model.specs.Enough.{is_settled, outside, set_beside}
 use Rattle.array_model.specs.ReadingLaws.{FlashMayLeave}
-use Rattle.array_model.proofs.Records.{Among}
+use Rattle.array_model.proofs.Records.{Among, all_among, among_joined, among_rest}
 use Rattle.array_model.proofs.Sets.{placed_in, standing_carriers, read_standing, read_fallen}
 use Rattle.array_model.proofs.SameZones.{all-map}
-use Rattle.array_model.proofs.Payloads.{at_among}
 use Rattle.array_model.proofs.Formatted.{all_stay}
 
 -- ---- the drives
@@ -46,15 +45,6 @@ either : {X : Type 0} (b : Bool) (x : X) → cond b x x ≡ x
 either true x = refl
 either false x = refl
 
-among_joined : {X : Type 0} (x : X) (xs ys : List X) → Among x (xs ++ ys) → Among x xs ⊎ Among x ys
-among_joined x [] ys found = inr found
-among_joined x (y ∷ xs) ys (inl is) = inl (inl is)
-among_joined x (y ∷ xs) ys (inr later) = elim (among_joined x xs ys later) [ inl first ↦ inl (inr first) | inr second ↦ inr second ]
-
-among_middle : {X : Type 0} (before : List X) (x : X) (after : List X) → Among x (before ++ x ∷ after)
-among_middle [] x after = inl refl
-among_middle (y ∷ before) x after = inr (among_middle before x after)
-
 module _ (array : Array) (held : Contents) (places : List Place) where
   -- What is read beside none that hold anything is what is read.
   same_beside : (sets : List ReadSet) (ids : List ℕ) → map (set_beside array held places sets) (map (read_set array held places) ids) ≡ map (read_set array held places) ids
@@ -75,9 +65,9 @@ module _ (array : Array) (held : Contents) (places : List Place) where
       at_one : (b : Bool) → stands k set ≡ b → (Among it (records_of k above) → k ≤ length (carriers_of array held places it.set)) → k ≤ length (carriers_of array held places it.set)
       at_one true stood rest =
           let items = cut_to (kept_by set.id (valid k above)) set.records in
-          elim (among_joined it (placed_from set.id 0 items) (records_of k above) (subst (Among it) (read_standing k set above stood) found)) [
+          elim (among_joined (placed_from set.id 0 items) (records_of k above) it (subst (Among it) (read_standing k set above stood) found)) [
             | inl here ↦
-                let own : it.set ≡ id = at_among (λ (p : Placed). p.set ≡ set.id) (placed_from set.id 0 items) it (placed_in set.id 0 items) here in
+                let own : it.set ≡ id = all_among (λ (p : Placed). p.set ≡ set.id) (placed_from set.id 0 items) it (placed_in set.id 0 items) here in
                 subst (λ n. k ≤ length (carriers_of array held places n)) (sym own) (standing_carriers k set stood)
             | inr later ↦ rest later
           ]
@@ -86,7 +76,7 @@ module _ (array : Array) (held : Contents) (places : List Place) where
   needed_has_carriers : (k : ℕ) (uploads ids : List ℕ) (id : ℕ) → IsNeededSet k uploads (map (read_set array held places) ids) id → k ≤ length (carriers_of array held places id)
   needed_has_carriers k uploads ids id (it, needed, own) =
       subst (λ n. k ≤ length (carriers_of array held places n)) own
-      (valid_has_carriers k ids it (subst (Among it) (sym needed.valid) (among_middle needed.before it needed.after)))
+      (valid_has_carriers k ids it (subst (Among it) (sym needed.valid) (among_rest needed.before (it ∷ needed.after) it (inl refl))))
 
 pub flash_may_leave : FlashMayLeave
 flash_may_leave array shape uploads held set =

@@ -23,11 +23,10 @@ use Rattle.array_model.specs.Reading.{Carrier, carries, carrier_of, fragments_of
 use Rattle.array_model.specs.Enough.{IsLeftAfter, outside, set_beside, read_beside}
 use Rattle.array_model.specs.Kept.{HaveOneList, carriers_in, CarriersAgree, ClosedStand, AreCopies, OneIsUnsettled, CutsKeepReady, CutsFit, LabelsAreOf, EndsAreFound, TakesFewer, EachZone, IndexesAreAlone, FitsBeside, ShowsKept, label_of, HasShape, IsFormatted}
 use Rattle.array_model.specs.ReadingLaws.{FormattedIsPresent, FormattedIsKept, FormattedIsEmpty}
-use Rattle.array_model.proofs.Records.{Among, among_from_contains}
+use Rattle.array_model.proofs.Records.{Among, among_from_contains, all_among}
 use Rattle.array_model.proofs.Carriers.{held_without, label_in, label_on-is, label_in-is, label_in-own, no_label, places_of}
 use Rattle.array_model.proofs.SameZones.{all-append, all-map}
 use Rattle.array_model.proofs.Fallen.{nothing_whole}
-use Rattle.array_model.proofs.Payloads.{at_among}
 
 -- ---- what remains holds labels alone
 
@@ -203,7 +202,7 @@ module _ (array : Array) (shape : Shape) (held : Contents) (fits : HasShape arra
   alone : IndexesAreAlone array shape held
   alone set index one other found also is as_well =
       let places = places_on shape (present shape held []) in
-      let empty : IsEmpty one = at_among IsEmpty places one (all_empty (present shape held [])) (among_from_contains places one found) in
+      let empty : IsEmpty one = all_among IsEmpty places one (all_empty (present shape held [])) (among_from_contains places one found) in
       let none : is_of set index (head_at array held one) ≡ false = ap (is_of set index) (no_head one empty) in
       absurd (true≢false (sym is ∙ none))
 

@@ -5,10 +5,9 @@ use Rattle.std.specs.List.{AllByRecursion, find, range_with_len}
 use Rattle.zone_bay.specs.Contents.{Shape}
 use Rattle.array_model.specs.Drives.{Place, is_of, head_at, drives_of, is_present, present, places_on}
 use Rattle.array_model.specs.ReadingLaws.{IsNoHigher, CarrierIsLowest}
-use Rattle.array_model.proofs.Records.{Among, among_from_contains}
+use Rattle.array_model.proofs.Records.{Among, among_from_contains, all_among}
 use Rattle.array_model.proofs.Carriers.{find-is, carries_some, places_of, places_on_device}
 use Rattle.array_model.proofs.SameZones.{all-map, all-append}
-use Rattle.array_model.proofs.Payloads.{at_among}
 
 -- ---- numbers that rise
 
@@ -79,7 +78,7 @@ find-lowest p (z ∷ xs) x y sorted e found passes = at_one (p z) refl e found (
 
     at_one : (b : Bool) → p z ≡ b → cond b (Some z) (find p xs) ≡ Some x → Among y (z ∷ xs) → (find p xs ≡ Some x → Among y xs → IsNoHigher x y) → IsNoHigher x y
     at_one true is e (inl same) rest = let first : z ≡ x = cc in itself x y (sym first ∙ same)
-    at_one true is e (inr later) rest = let first : z ≡ x = cc in subst (λ (a : Place). IsNoHigher a y) first (at_among (IsNoHigher z) xs y sorted.0 later)
+    at_one true is e (inr later) rest = let first : z ≡ x = cc in subst (λ (a : Place). IsNoHigher a y) first (all_among (IsNoHigher z) xs y sorted.0 later)
     at_one false is e (inl same) rest = let none = sym (ap p same) ∙ is in absurd cc
     at_one false is e (inr later) rest = rest e later
 

@@ -11,12 +11,11 @@ use Rattle.array_model.specs.Map.{map_of}
 use Rattle.array_model.specs.Enough.{is_settled, IsEnough}
 use Rattle.array_model.specs.Kept.{carriers_in, IsKept}
 use Rattle.array_model.specs.RemovalLaws.{HaveEqualLists, UnsettledAreEven, OnePossibleMap}
-use Rattle.array_model.proofs.Records.{Among, among_from_contains}
-use Rattle.array_model.proofs.Behind.{all_among}
+use Rattle.array_model.proofs.Records.{Among, among_from_contains, all_among}
 use Rattle.array_model.proofs.Carriers.{present_stay}
 use Rattle.array_model.proofs.SameZones.{StillHolds, TellsSame, all-map, staying_same, carriers-same, carriers_among, left_is_held_before}
 use Rattle.array_model.proofs.Staying.{code_within}
-use Rattle.array_model.proofs.Removal.{here, there, left, ids, ids_left, nothing_left}
+use Rattle.array_model.proofs.Removal.{places_now, places_left, set_left, numbers_now, numbers_left, nothing_left}
 use Rattle.array_model.proofs.Even.{map_stays, even_left}
 use Rattle.array_model.proofs.Remains.{removal_leaves_remains, remains_are_kept, holds_of_remains, image_remains}
 
@@ -31,7 +30,7 @@ module _ (array : Array) (shape : Shape) (held : Contents) (leaving : List ℕ) 
   after = without_each leaving held
 
   abbrev others : List Place
-  others = there array shape held leaving
+  others = places_left array shape held leaving
 
   still : AllByRecursion (StillHolds held leaving) others
   still = staying_same shape held leaving (present shape held [])
@@ -67,15 +66,15 @@ module _ (array : Array) (shape : Shape) (image held : Contents) (leaving : List
 
   -- a set as the drives that stay have it, and the numbers of those that are read from them
   abbrev rest : ℕ → ReadSet
-  rest = left array shape held leaving
+  rest = set_left array shape held leaving
 
-  abbrev numbers_left : List ℕ
-  numbers_left = ids_left array shape held leaving
+  abbrev ids_left : List ℕ
+  ids_left = numbers_left array shape held leaving
 
   evens_after : UnsettledAreEven array shape (without_each leaving held)
   evens_after set found many unsettled =
       let read = left_is_held_before array shape held leaving in
-      let one = by_number rest numbers_left set (among_from_contains (map rest numbers_left) set (subst (λ sets. Contains sets set) read found)) in
+      let one = by_number rest ids_left set (among_from_contains (map rest ids_left) set (subst (λ sets. Contains sets set) read found)) in
       let own : set.id ≡ one.0 = ap (λ (s : ReadSet). s.id) (sym one.2) in
       let not_settled = subst (λ sets. is_settled k sets (rest one.0) ≡ false) read (subst (λ s. is_settled k (read_of array shape (without_each leaving held)) s ≡ false) (sym one.2) unsettled) in
       let carriers = subst (λ (s : ReadSet). k ≤ s.carriers) (sym one.2) many in
@@ -84,12 +83,12 @@ module _ (array : Array) (shape : Shape) (image held : Contents) (leaving : List
 
   -- Where nothing is read, nothing is read afterwards.
   same_after : map_of k (read_of array shape (without_each leaving held)) ≡ map_of k (read_of array shape held)
-  same_after = ap (map_of k) (left_is_held_before array shape held leaving) ∙ at_ids (ids array shape held leaving) refl
+  same_after = ap (map_of k) (left_is_held_before array shape held leaving) ∙ at_ids (numbers_now array shape held leaving) refl
     where
-      at_ids : (those : List ℕ) → ids array shape held leaving ≡ those → map_of k (map rest numbers_left) ≡ map_of k (read_of array shape held)
+      at_ids : (those : List ℕ) → numbers_now array shape held leaving ≡ those → map_of k (map rest ids_left) ≡ map_of k (read_of array shape held)
       at_ids [] none =
           ap (map_of k) (nothing_left array shape held leaving none)
-          ∙ sym (ap (λ those. map_of k (map (read_set array held (here array shape held leaving)) those)) none)
+          ∙ sym (ap (λ those. map_of k (map (read_set array held (places_now array shape held leaving)) those)) none)
       at_ids (id ∷ those) is = map_stays array shape held leaving (was.kept held (image_remains array shape held)) was.even enough (code_within array held _ id (subst (λ those. Among id those) (sym is) (inl refl))).0
 
   even_after : IsEven array shape image (without_each leaving held)

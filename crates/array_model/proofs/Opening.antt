@@ -9,13 +9,13 @@ use Rattle.array_model.specs.Sets.{ReadSet, ValidSet, Placed, RiseAbove, stands,
 use Rattle.array_model.specs.Map.{items_of, value_of, value_in}
 use Rattle.array_model.specs.Need.{IsWanted}
 use Rattle.array_model.specs.SetLaws.{CutsAreOfLower, OpensWithCuts, IsOpeningCut, IsSameToCut, OpeningChangesNothing, OpeningFixesWhatWasRead, ReadsTheSame}
-use Rattle.array_model.proofs.Records.{Among, among_from_contains, contains_from_among, among_joined, among_first, least_at_most, least_is_there}
+use Rattle.array_model.proofs.Records.{Among, among_from_contains, contains_from_among, among_joined, among_first, least_at_most, least_is_there, all_among}
 use Rattle.array_model.proofs.MapLaws.{same_values_same_map}
 use Rattle.array_model.proofs.Thinned.{Thinned, StandsIn, Counts, no_more, fewer_thin, wanted_stays, part_stays, item_among}
 use Rattle.array_model.proofs.Notes.{KeepsWanted, value_stays}
 use Rattle.array_model.proofs.Sets.{lesser_none, items_placed, items_joined}
 use Rattle.array_model.proofs.Appended.{read_highest}
-use Rattle.array_model.proofs.Behind.{all_among, value_behind, newest_before, no_notes, no_parts, same_parts_before}
+use Rattle.array_model.proofs.Behind.{value_behind, newest_before, no_notes, no_parts, same_parts_before}
 use Rattle.array_model.proofs.Copies.{among_above, needed_among, kept_above}
 use Rattle.array_model.proofs.Dropped.{CutsOrDrops, ReadThen, read_then}
 use Rattle.array_model.proofs.CutOff.{AreSameWhereKept, same_where_kept, kept_below}

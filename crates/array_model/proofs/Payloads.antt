@@ -18,7 +18,7 @@ use Rattle.gf_field.proofs.Field.{product_comm, product_assoc, product-one_left,
 use Rattle.gf_field.proofs.Polynomial.{same_from_xor, product_left_comm, value_is_byte}
 use Rattle.array_model.specs.Payload.{power, inverse, beside, interpolated, Fragment, indexes_of, byte_of, fragment_from, payload_from, fragment_of, IsCode, AreSome}
 use Rattle.array_model.specs.ReadingLaws.{PayloadIsRead}
-use Rattle.array_model.proofs.Records.{Among}
+use Rattle.array_model.proofs.Records.{Among, all_among}
 
 -- ---- inverses
 
@@ -119,11 +119,6 @@ value_beside : (r x c : ℕ) (cs : List ℕ) → IsByte r → IsByte x → AreBy
     → value_at (c ∷ cs) x ≡ bit_xor (value_at (c ∷ cs) r) (product (bit_xor x r) (value_at (tails r cs) x))
 value_beside r x c cs hr hx h = ap (bit_xor c) (less_first r x cs hr hx h) ∙ sym (xor_assoc c (product r (value_at cs r)) (product (bit_xor x r) (value_at (tails r cs) x)))
 
-pub at_among : {X : Type 0} (P : X → Type 0) (xs : List X) (x : X) → AllByRecursion P xs → Among x xs → P x
-at_among P [] x all found = absurd found
-at_among P (y ∷ xs) x all (inl is) = subst P is all.0
-at_among P (y ∷ xs) x all (inr later) = at_among P xs x all.1 later
-
 -- (a + b) + a = b
 xor_back : (a b : ℕ) → bit_xor (bit_xor a b) a ≡ b
 xor_back a b = xor_comm (bit_xor a b) a ∙ sym (xor_assoc a a b) ∙ ap (λ t. bit_xor t b) (xor_self a) ∙ xor_comm 0 b ∙ xor_zero_r b
@@ -146,7 +141,7 @@ interpolated_is (r ∷ points) [] value x hs d hq l hx values = absurd (omega (a
 interpolated_is (r ∷ points) (c ∷ cs) value x hs d hq l hx values =
     let ahead = IsDistinct-head nat_eq r points d in
     let rest = interpolated_is points (tails r cs) (beside r value) x hs.1 (IsDistinct-tail nat_eq r points d) (tails_are_bytes r cs hs.0 hq.1) (length-tails r cs ∙ cc) hx
-    (λ p among. beside_is r p c cs value hs.0 (at_among IsByte points p hs.1 among) hq.1 (λ e. eqb-false r p (at_among (λ y. nat_eq r y ≡ false) points p ahead among) (sym e)) (values r (inl refl)) (values p (inr among))) in
+    (λ p among. beside_is r p c cs value hs.0 (all_among IsByte points p hs.1 among) hq.1 (λ e. eqb-false r p (all_among (λ y. nat_eq r y ≡ false) points p ahead among) (sym e)) (values r (inl refl)) (values p (inr among))) in
     ap₂ (λ v t. bit_xor v (product (bit_xor x r) t)) (values r (inl refl)) rest
     ∙ sym (value_beside r x c cs hs.0 hx hq.1)
 

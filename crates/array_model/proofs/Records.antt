@@ -1,5 +1,6 @@
 -- Records among others: which cuts keep the least, which note is the newest, which part comes first.
 use Rattle.std.proofs.Common.{◌≡◌, slice_index_or, ℕ, ◌<◌, ◌≤◌, min, true, false, ◌==◌, List, [], ◌∷◌, ◌++◌, length, Option, Some, None, Contains, ◌⊎◌, inl, inr, refl, sym, ap, ◌∙◌, subst, zero, suc, ◌&&◌, nat_lt, ltb-true, ltb-false, arith, cond}
+use Rattle.std.specs.List.{AllByRecursion}
 use Rattle.std.proofs.Math.Decide.{ℕ_discrete}
 use Rattle.std.proofs.lemmas.Bool.{eqb-true, cases_lt, and_parts, eq-eqb}
 use Rattle.array_model.specs.Record.{Record, Record-discrete, Part, Cut, note_stamp, payload_of, kept_of}
@@ -57,6 +58,12 @@ among_first (y ∷ first) rest x (inr later) = inr (among_first first rest x lat
 pub among_rest : {X : Type 0} (first rest : List X) (x : X) → Among x rest → Among x (first ++ rest)
 among_rest [] rest x found = found
 among_rest (y ∷ first) rest x found = inr (among_rest first rest x found)
+
+-- What holds of all holds of each.
+pub all_among : {X : Type 0} (P : X → Type 0) (xs : List X) (x : X) → AllByRecursion P xs → Among x xs → P x
+all_among P [] x all found = absurd found
+all_among P (y ∷ xs) x all (inl is) = subst P is all.0
+all_among P (y ∷ xs) x all (inr later) = all_among P xs x all.1 later
 
 -- A cut that keeps so many of a target
 pub kept_is_cut : (target kept : ℕ) (item : Record) → kept_of target item ≡ Some kept → item ≡ Cut target kept

@@ -107,79 +107,82 @@ head_by set index None is = absurd cc
 head_by set index (Some head) is = (head, refl, eqb-true head.set set (and_parts _ _ is).0)
 
 module _ (array : Array) (shape : Shape) (held : Contents) (leaving : List ℕ) where
-  abbrev pub here : List Place
-  here = places_on shape (present shape held [])
+  abbrev pub places_now : List Place
+  places_now = places_on shape (present shape held [])
 
-  abbrev pub there : List Place
-  there = places_on shape (outside leaving (present shape held []))
+  abbrev pub places_left : List Place
+  places_left = places_on shape (outside leaving (present shape held []))
 
-  -- a set as it is read now, and as the drives that stay have it
-  abbrev pub now : ℕ → ReadSet
-  now id = read_set array held here id
+  -- a set as it is read set_now, and as the drives that stay have it
+  abbrev pub set_now : ℕ → ReadSet
+  set_now id = read_set array held places_now id
 
-  abbrev pub left : ℕ → ReadSet
-  left id = read_set array held there id
+  abbrev pub set_left : ℕ → ReadSet
+  set_left id = read_set array held places_left id
 
-  abbrev pub ids : List ℕ
-  ids = ids_at array held here
+  abbrev pub numbers_now : List ℕ
+  numbers_now = ids_at array held places_now
 
-  abbrev pub ids_left : List ℕ
-  ids_left = ids_at array held there
+  abbrev pub numbers_left : List ℕ
+  numbers_left = ids_at array held places_left
 
   -- A set that is read from the drives that stay was read,
-  pub left_was : (id : ℕ) → Among id ids_left → Among id ids
-  left_was id found =
-      let head = head_of_read array held there id found in
-      read_by_head array held here id head.0 (place_was shape leaving (present shape held []) head.0 head.1) head.2
+  pub left_was_read : (id : ℕ) → Among id numbers_left → Among id numbers_now
+  left_was_read id found =
+      let head = head_of_read array held places_left id found in
+      read_by_head array held places_now id head.0 (place_was shape leaving (present shape held []) head.0 head.1) head.2
 
   -- so nothing is read from them where nothing was.
-  pub nothing_left : ids ≡ [] → map left ids_left ≡ []
-  nothing_left none = none_of ids_left (λ id found. subst (λ those. Among id those) none (left_was id found))
+  pub nothing_left : numbers_now ≡ [] → map set_left numbers_left ≡ []
+  nothing_left none = none_of numbers_left (λ id found. subst (λ those. Among id those) none (left_was_read id found))
     where
-      none_of : (those : List ℕ) → ((id : ℕ) → Among id those → ⊥) → map left those ≡ []
+      none_of : (those : List ℕ) → ((id : ℕ) → Among id those → ⊥) → map set_left those ≡ []
       none_of [] absent = refl
       none_of (id ∷ those) absent = absurd (absent id (inl refl))
 
   -- A set with a carrier on them is read from them.
-  carried_left : (id : ℕ) → 0 < length (carriers_of array held there id) → Among id ids_left
+  carried_left : (id : ℕ) → 0 < length (carriers_of array held places_left id) → Among id numbers_left
   carried_left id some =
-      let c = first_among (carriers_of array held there id) some in
-      let found = among_filter_map (carrier_of array held there id) (range_with_len 0 (fragments_of array)) c.0 c.1 in
-      let place = place_of array shape held leaving there id found.0 c.0 found.1 in
-      read_by_head array held there id c.0.place place.1 (head_by id found.0 (head_at array held c.0.place) place.0)
+      let c = first_among (carriers_of array held places_left id) some in
+      let found = among_filter_map (carrier_of array held places_left id) (range_with_len 0 (fragments_of array)) c.0 c.1 in
+      let place = place_of array shape held leaving places_left id found.0 c.0 found.1 in
+      read_by_head array held places_left id c.0.place place.1 (head_by id found.0 (head_at array held c.0.place) place.0)
 
   -- So the others say nothing.
-  pub valid_left : (k : ℕ) → 0 < k → valid k (map left ids_left) ≡ valid k (map left ids)
-  valid_left k some = valid_of_some k left 0 ids_left ids (ids_rise array held there) (ids_rise array held here) left_was
-      (λ id found stood. let many = standing_carriers k (left id) stood in carried_left id (omega arith))
+  pub valid_left : (k : ℕ) → 0 < k → valid k (map set_left numbers_left) ≡ valid k (map set_left numbers_now)
+  valid_left k some = valid_of_some k set_left 0 numbers_left numbers_now (ids_rise array held places_left) (ids_rise array held places_now) left_was_read
+      (λ id found stood. let many = standing_carriers k (set_left id) stood in carried_left id (omega arith))
 
-  pub carriers_left : (id : ℕ) → HasCarrier (map left ids_left) id → HasCarrier (map left ids) id
-  carriers_left id has = let some = carrier_read array held there ids_left id has in read_carrier array held there ids id (left_was id some.0) some.1
+  -- A set with a carrier on them is one that is read now,
+  pub carriers_left : (id : ℕ) → HasCarrier (map set_left numbers_left) id → HasCarrier (map set_left numbers_now) id
+  carriers_left id has = let some = carrier_read array held places_left numbers_left id has in read_carrier array held places_left numbers_now id (left_was_read id some.0) some.1
 
-  pub enough_left : (k : ℕ) (uploads : List ℕ) (old : List ReadSet) (those : List ℕ) → ((id : ℕ) → IsNeededSet k uploads old id → k ≤ length (carriers_of array held there id)) → AreEnough k uploads old (map left those)
+  -- and has enough where they do.
+  pub enough_left : (k : ℕ) (uploads : List ℕ) (old : List ReadSet) (those : List ℕ) → ((id : ℕ) → IsNeededSet k uploads old id → k ≤ length (carriers_of array held places_left id)) → AreEnough k uploads old (map set_left those)
   enough_left k uploads old [] enough = tt
   enough_left k uploads old (id ∷ those) enough = ((λ needed. enough id needed), enough_left k uploads old those enough)
 
-  -- A set that is settled in these sets, which are read as they are from all carriers, loses carriers.
+  -- Of sets in which what is settled is read from all its carriers, a settled one loses carriers: as many of its records as
+  -- are kept are the same from those that stay.
   module _ (alone : IndexesAreAlone array shape held) (lists : (set : ℕ) → HaveOneList array held (carriers_in array shape held set)) (whole : List ReadSet) (rising : AreRising whole) (lower : CutsAreOfLower array.geometry.k whole) (fits : CutsFit array.geometry.k whole) (payloads : (set : ValidSet) → Contains (valid array.geometry.k whole) set → HavePayloads array held (carriers_in array shape held set.id) (length set.records)) where
-    pub settled_loses : (front above : List ReadSet) (id : ℕ) → Among id ids → whole ≡ front ++ now id ∷ above → is_settled array.geometry.k whole (now id) ≡ true → Loses array.geometry.k above (now id) (left id)
+    pub settled_loses : (front above : List ReadSet) (id : ℕ) → Among id numbers_now → whole ≡ front ++ set_now id ∷ above → is_settled array.geometry.k whole (set_now id) ≡ true → Loses array.geometry.k above (set_now id) (set_left id)
     settled_loses front above id found at settled =
         let k = array.geometry.k in
-        let code = code_within array held here id found in
-        let tests = and_parts (stands k (now id)) _ settled in
-        let kept = kept_by_above k whole front (now id) above at rising lower in
+        let code = code_within array held places_now id found in
+        let tests = and_parts (stands k (set_now id)) _ settled in
+        let kept = kept_by_above k whole front (set_now id) above at rising lower in
         record {
           id = refl;
           carriers = no_more_carriers array shape held (present shape held []) leaving id;
-          stays = λ enough was. and_from _ _ (le-leb k (left id).carriers enough) (ready_stays array held there here id (keeps_enough array shape held leaving alone id code.0 code.1 enough) (standing_ready k (now id) was));
+          stays = λ enough was. and_from _ _ (le-leb k (set_left id).carriers enough) (ready_stays array held places_left places_now id (keeps_enough array shape held leaving alone id code.0 code.1 enough) (standing_ready k (set_now id) was));
           stood = λ still. tests.0;
           kept = λ still.
-              settled_same array held there here id (keeps_enough array shape held leaving alone id code.0 code.1 (standing_carriers k (left id) still)) (kept_by id (valid k above))
-              (λ n is. fits (now id) n (subst (λ sets. Contains sets (now id)) (sym at) (contains_from_among (front ++ now id ∷ above) (now id) (among_rest front (now id ∷ above) (now id) (inl refl)))) tests.0 (kept ∙ is))
+              settled_same array held places_left places_now id (keeps_enough array shape held leaving alone id code.0 code.1 (standing_carriers k (set_left id) still)) (kept_by id (valid k above))
+              (λ n is. fits (set_now id) n (subst (λ sets. Contains sets (set_now id)) (sym at) (contains_from_among (front ++ set_now id ∷ above) (set_now id) (among_rest front (set_now id ∷ above) (set_now id) (inl refl)))) tests.0 (kept ∙ is))
               (λ none. elim (or_cases _ _ tests.1) [
                 | inl named ↦ let e : is_some (kept_by id (valid k above)) ≡ true = ap is_some (sym kept) ∙ named in let e' = sym (ap is_some none) ∙ e in absurd cc
                 | inr closed ↦ closed
               ])
               (lists id)
-              (payloads (record { id = id; records = cut_to (kept_by id (valid k above)) (now id).records }) (valid_there k whole front (now id) above at tests.0));
+              (payloads (record { id = id; records = cut_to (kept_by id (valid k above)) (set_now id).records }) (valid_there k whole front (set_now id) above at tests.0));
         }

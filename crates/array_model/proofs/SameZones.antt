@@ -40,7 +40,7 @@ pub all-map : {X : Type 0} (P Q : X → Type 0) (xs : List X) → ((x : X) → P
 all-map P Q [] more all = tt
 all-map P Q (x ∷ xs) more all = (more x all.0, all-map P Q xs more all.1)
 
-all-take : {X : Type 0} (P : X → Type 0) (n : ℕ) (xs : List X) → AllByRecursion P xs → AllByRecursion P (take n xs)
+pub all-take : {X : Type 0} (P : X → Type 0) (n : ℕ) (xs : List X) → AllByRecursion P xs → AllByRecursion P (take n xs)
 all-take P zero xs all = tt
 all-take P (suc n) [] all = tt
 all-take P (suc n) (x ∷ xs) all = (all.0, all-take P n xs all.1)

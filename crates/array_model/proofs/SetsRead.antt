@@ -15,10 +15,11 @@ use Rattle.array_model.proofs.SameZones.{Rise}
 
 -- ---- numbers among rising ones
 
-among_with : (x id : ℕ) (ids : List ℕ) → Among x (with_id id ids) → (id ≡ x) ⊎ Among x ids
-among_with x id [] (inl is) = inl is
-among_with x id [] (inr none) = absurd none
-among_with x id (other ∷ ids) found = at_both (ltb id other) (eqb id other) (among_with x id ids) found
+-- What is among numbers with one more is that one, or was among them,
+among_with_id : (x id : ℕ) (ids : List ℕ) → Among x (with_id id ids) → (id ≡ x) ⊎ Among x ids
+among_with_id x id [] (inl is) = inl is
+among_with_id x id [] (inr none) = absurd none
+among_with_id x id (other ∷ ids) found = at_both (ltb id other) (eqb id other) (among_with_id x id ids) found
   where
     at_both : (b c : Bool) → (Among x (with_id id ids) → (id ≡ x) ⊎ Among x ids) → Among x (cond b (id ∷ other ∷ ids) (cond c (other ∷ ids) (other ∷ with_id id ids))) → (id ≡ x) ⊎ Among x (other ∷ ids)
     at_both true c again (inl is) = inl is
@@ -27,9 +28,10 @@ among_with x id (other ∷ ids) found = at_both (ltb id other) (eqb id other) (a
     at_both false false again (inl is) = inr (inl is)
     at_both false false again (inr later) = elim (again later) [ inl is ↦ inl is | inr there ↦ inr (inr there) ]
 
-among_without : (x id : ℕ) (ids : List ℕ) → (id ≡ x) ⊎ Among x ids → Among x (with_id id ids)
-among_without x id [] found = found
-among_without x id (other ∷ ids) found = at_both (ltb id other) (eqb id other) refl (among_without x id ids) found
+-- and the other way round.
+among_with_id_if : (x id : ℕ) (ids : List ℕ) → (id ≡ x) ⊎ Among x ids → Among x (with_id id ids)
+among_with_id_if x id [] found = found
+among_with_id_if x id (other ∷ ids) found = at_both (ltb id other) (eqb id other) refl (among_with_id_if x id ids) found
   where
     at_both : (b c : Bool) → eqb id other ≡ c → ((id ≡ x) ⊎ Among x ids → Among x (with_id id ids)) → (id ≡ x) ⊎ Among x (other ∷ ids) → Among x (cond b (id ∷ other ∷ ids) (cond c (other ∷ ids) (other ∷ with_id id ids)))
     at_both true c same again found = found
@@ -51,7 +53,7 @@ module _ (array : Array) (held : Contents) where
     where
       at_head : (o : Option Marker) → head_at array held place ≡ o → (Among id (ids_at array held places) → (place : Place) × Among place places × HasHeadOf array held id place) → Among id (with_head o (ids_at array held places)) → (other : Place) × Among other (place ∷ places) × HasHeadOf array held id other
       at_head None is again found = let there = again found in (there.0, inr there.1, there.2)
-      at_head (Some head) is again found = elim (among_with id head.set (ids_at array held places) found) [
+      at_head (Some head) is again found = elim (among_with_id id head.set (ids_at array held places) found) [
         | inl same ↦ (place, inl refl, (head, is, same))
         | inr later ↦ let there = again later in (there.0, inr there.1, there.2)
       ]
@@ -67,8 +69,8 @@ module _ (array : Array) (held : Contents) where
       at_head (Some own) own_is again (inl here) =
           let e : Some own ≡ Some head = sym own_is ∙ ap (head_at array held) here ∙ is in
           let own_head : own ≡ head = cc in
-          among_without id own.set (ids_at array held places) (inl (ap (λ (m : Marker). m.set) own_head ∙ same))
-      at_head (Some own) own_is again (inr later) = among_without id own.set (ids_at array held places) (inr (again later))
+          among_with_id_if id own.set (ids_at array held places) (inl (ap (λ (m : Marker). m.set) own_head ∙ same))
+      at_head (Some own) own_is again (inr later) = among_with_id_if id own.set (ids_at array held places) (inr (again later))
 
   -- A set with a carrier is one of those that are read.
   pub carrier_read : (places : List Place) (ids : List ℕ) (id : ℕ) → HasCarrier (map (read_set array held places) ids) id → Among id ids × (0 < length (carriers_of array held places id))

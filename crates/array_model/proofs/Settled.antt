@@ -17,10 +17,9 @@ use Rattle.array_model.specs.Drives.{bytes_at, records_at}
 use Rattle.array_model.specs.Reading.{Carrier, aside, alike, IsPrefixAlike, agreed, are_closed}
 use Rattle.array_model.specs.Kept.{HaveOneList}
 use Rattle.array_model.specs.ReadingLaws.{CutReadsTheSame, ClosedReadsTheSame}
-use Rattle.array_model.proofs.Records.{Among, among_from_contains, contains_from_among}
+use Rattle.array_model.proofs.Records.{Among, among_from_contains, contains_from_among, all_among}
 use Rattle.array_model.proofs.Alike.{part_stays, nothing_else_is_aside}
 use Rattle.array_model.proofs.Agreed.{agree_where_alike, held_by_each, agreed_is_longest}
-use Rattle.array_model.proofs.Payloads.{at_among}
 
 -- ---- the end of a closed zone
 
@@ -142,8 +141,8 @@ each_alike : (array : Array) (held : Contents) (carriers : List Carrier) (one ot
 each_alike array held carriers one other lists closed one_in other_in =
     closed_alike array (bytes_at held one.place) (bytes_at held other.place) lists.0
     (all_closed array held carriers one closed one_in) (all_closed array held carriers other closed other_in)
-    (at_among (λ (c : Carrier). IsPrefixAlike (records_at array held c.place) lists.0) carriers one lists.1 one_in)
-    (at_among (λ (c : Carrier). IsPrefixAlike (records_at array held c.place) lists.0) carriers other lists.1 other_in)
+    (all_among (λ (c : Carrier). IsPrefixAlike (records_at array held c.place) lists.0) carriers one lists.1 one_in)
+    (all_among (λ (c : Carrier). IsPrefixAlike (records_at array held c.place) lists.0) carriers other lists.1 other_in)
 
 -- Two lists of which each has the other first are alike.
 alike_both : (one other : List Marker) → IsPrefixAlike one other → IsPrefixAlike other one → map alike one ≡ map alike other

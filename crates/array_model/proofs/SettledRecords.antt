@@ -15,12 +15,12 @@ use Rattle.array_model.specs.Reading.{Carrier, carriers_of, aside, alike, agreed
 use Rattle.array_model.specs.Payload.{fragment_of}
 use Rattle.array_model.specs.Kept.{HaveOneList, HaveOnePayload, HavePayloads}
 use Rattle.array_model.specs.ReadingLaws.{KeepsEnough, KeptIsReadFromSome, ClosedIsReadFromSome}
-use Rattle.array_model.proofs.Records.{Among, among_from_contains, contains_from_among}
+use Rattle.array_model.proofs.Records.{Among, among_from_contains, contains_from_among, all_among}
 use Rattle.array_model.proofs.Alike.{part_stays, nothing_else_is_aside}
 use Rattle.array_model.proofs.Agreed.{agree_where_alike, common_first}
-use Rattle.array_model.proofs.Payloads.{at_among}
 use Rattle.array_model.proofs.Fragments.{carriers_give_payload}
 use Rattle.array_model.proofs.Settled.{whole_stand, all_markers, cut_reads_the_same, closed_reads_the_same}
+use Rattle.array_model.proofs.SameZones.{all-take}
 
 -- ---- one record
 
@@ -83,11 +83,6 @@ pub all_front : (P : Marker → Type 0) (xs ys : List Marker) → AllByRecursion
 all_front P [] ys all = tt
 all_front P (x ∷ xs) ys all = (all.0, all_front P xs ys all.1)
 
-all_taken : (P : Marker → Type 0) (n : ℕ) (xs : List Marker) → AllByRecursion P xs → AllByRecursion P (take n xs)
-all_taken P zero xs all = tt
-all_taken P (suc n) [] all = tt
-all_taken P (suc n) (x ∷ xs) all = (all.0, all_taken P n xs all.1)
-
 pub agreed_markers : (array : Array) (held : Contents) (carriers : List Carrier) → AllByRecursion IsMarker (agreed array held carriers)
 agreed_markers array held [] = tt
 agreed_markers array held (c ∷ []) = all_markers array (bytes_at held c.place) (records_at array held c.place) None 0 (whole_stand array (bytes_at held c.place))
@@ -119,7 +114,7 @@ module _ (array : Array) (held : Contents) (places those : List Place) (set : �
         fragments = one.fragments;
         are = one.are;
         each = all_from_among (λ (c : Carrier). (fragment_on held block m c).bytes ≡ fragment_of one.fragments c.index) few
-            (λ c found. at_among (λ (c : Carrier). (fragment_on held block m c).bytes ≡ fragment_of one.fragments c.index) all c one.each (among_from_contains all c (keeps.some.1 c (contains_from_among few c found))));
+            (λ c found. all_among (λ (c : Carrier). (fragment_on held block m c).bytes ≡ fragment_of one.fragments c.index) all c one.each (among_from_contains all c (keeps.some.1 c (contains_from_among few c found))));
       } in
       carriers_give_payload array held places set block m less keeps.enough keeps.fits
       ∙ sym (carriers_give_payload array held those set block m one keeps.were keeps.fits)
@@ -138,8 +133,8 @@ module _ (array : Array) (held : Contents) (places those : List Place) (set : �
       take_records array held few kept 0 (agreed array held few)
       ∙ same_records array held few all 0 (take kept (agreed array held few)) (take kept (agreed array held all))
       (cut_reads_the_same array held few all kept keeps.some fits)
-      (all_taken IsMarker kept (agreed array held few) (agreed_markers array held few))
-      (all_taken IsMarker kept (agreed array held all) (agreed_markers array held all))
+      (all-take IsMarker kept (agreed array held few) (agreed_markers array held few))
+      (all-take IsMarker kept (agreed array held all) (agreed_markers array held all))
       (same_payloads kept have kept [] (agreed array held all) refl (omega arith))
       ∙ sym (take_records array held all kept 0 (agreed array held all))
 

@@ -19,10 +19,9 @@ use Rattle.array_model.specs.Sets.{cut_to}
 use Rattle.array_model.specs.Enough.{outside}
 use Rattle.array_model.specs.Kept.{HaveOneList, HavePayloads, IndexesAreAlone}
 use Rattle.array_model.specs.ReadingLaws.{KeepsEnough}
-use Rattle.array_model.proofs.Records.{Among, among_from_contains, contains_from_among, among_first, among_rest, among_joined}
+use Rattle.array_model.proofs.Records.{Among, among_from_contains, contains_from_among, among_first, among_rest, among_joined, all_among}
 use Rattle.array_model.proofs.Alike.{nothing_else_is_aside}
 use Rattle.array_model.proofs.Agreed.{agree_where_alike, held_by_each, agreed_is_longest}
-use Rattle.array_model.proofs.Behind.{all_among}
 use Rattle.array_model.proofs.Carriers.{no_carrier_comes, carrier_stays, no_more_carriers, places_of, places_on_device}
 use Rattle.array_model.proofs.SameZones.{all-map, all-append, carrier_among, head_is_whole}
 use Rattle.array_model.proofs.SettledRecords.{same_record_by, agreed_markers, all_from_among, kept_same, closed_same}
