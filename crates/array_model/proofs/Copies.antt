@@ -111,7 +111,7 @@ module _ (k : ℕ) (uploads : List ℕ) (old : List ReadSet) (more : List Record
           let first = part_has_first upload part payload (items_of (records_of k old)) (copy_there (Part upload part payload) (first_is_there upload part payload more is)) in
           ap (λ o. or_else o (part_of upload part more)) first.1 ∙ sym first.1
 
-  cuts_copied : CutsAreOfLower k old → (target kept : ℕ) → least_kept target more ≡ Some kept → (it : Placed) × Among it (records_of k old) × (it.item ≡ Cut target kept) × (target < it.set)
+  pub cuts_copied : CutsAreOfLower k old → (target kept : ℕ) → least_kept target more ≡ Some kept → (it : Placed) × Among it (records_of k old) × (it.item ≡ Cut target kept) × (target < it.set)
   cuts_copied lower target kept is =
       let it = copied (Cut target kept) (least_is_there target kept more is) in
       let there = needed_among k uploads old it.0 it.1 in

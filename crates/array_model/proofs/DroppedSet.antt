@@ -27,7 +27,7 @@ module _ (k : ℕ) (uploads : List ℕ) (id : ℕ) (old : List ReadSet) where
   abbrev pub IsCopied : List Placed → Placed → List Placed → Type 0
   IsCopied before it after = (it.set ≡ id) × (IsWanted uploads (items_of (records_of k old)) it.item → NoCopy before it.item → IsElsewhere it.item) × (IsLastCut old after it.item → ⊥)
 
-  copies_stand_in : StandsIn k uploads old (Cut id 0 ∷ []) IsCopied IsElsewhere
+  pub copies_stand_in : StandsIn k uploads old (Cut id 0 ∷ []) IsCopied IsElsewhere
   copies_stand_in = record {
     wanted = λ before it after gone wanted none. gone.1 wanted none;
     cut = λ before it after gone last. absurd (gone.2 last);
@@ -85,33 +85,33 @@ parts_are_same old kept upload part no_more stay one = firsts (part_of upload pa
         first.1 ∙ ap Some (one first.0 x (no_more _ (first_is_there upload part first.0 kept first.1)) there) ∙ sym is
 
 module _ (k : ℕ) (uploads : List ℕ) (id : ℕ) (old mid : List ReadSet) (some : 0 < k) (drops : DropsSet k uploads id old mid) where
-  abbrev cut_record : List Record
+  abbrev pub cut_record : List Record
   cut_record = Cut id 0 ∷ []
 
-  abbrev tail : List ReadSet
+  abbrev pub tail : List ReadSet
   tail = drops.appends.top ∷ drops.appends.above
 
-  abbrev top_then : ReadSet
+  abbrev pub top_then : ReadSet
   top_then = record drops.appends.top { records = drops.appends.top.records ++ cut_record }
 
-  abbrev tail_then : List ReadSet
+  abbrev pub tail_then : List ReadSet
   tail_then = top_then ∷ drops.appends.above
 
-  abbrev extra : List Placed
+  abbrev pub extra : List Placed
   extra = extra_of drops.appends.top cut_record
 
-  behind : records_of k tail_then ≡ records_of k tail ++ extra
+  pub behind : records_of k tail_then ≡ records_of k tail ++ extra
   behind = read_top k drops.appends.top cut_record drops.appends.above drops.appends.stood drops.appends.highest
 
-  abbrev was : old ≡ drops.appends.below ++ tail
+  abbrev pub was : old ≡ drops.appends.below ++ tail
   was = drops.appends.was
 
-  then : ReadThen k uploads old cut_record (IsCopied k uploads id old) (IsElsewhere k uploads id old) (copies_stand_in k uploads id old) some tail tail_then extra behind (items_extra drops.appends.top cut_record) [] (drops.appends.below ++ tail) (drops.appends.below ++ tail_then)
+  pub then : ReadThen k uploads old cut_record (IsCopied k uploads id old) (IsElsewhere k uploads id old) (copies_stand_in k uploads id old) some tail tail_then extra behind (items_extra drops.appends.top cut_record) [] (drops.appends.below ++ tail) (drops.appends.below ++ tail_then)
   then = read_then k uploads old cut_record (IsCopied k uploads id old) (IsElsewhere k uploads id old) (copies_stand_in k uploads id old) some tail tail_then extra behind (items_extra drops.appends.top cut_record) drops.appends.below []
       (ap (records_of k) was) (λ other has. subst (λ sets. HasCarrier sets other) (sym was) has)
       (cuts_or_drops k uploads id old drops.copies some tail tail_then extra behind (items_extra drops.appends.top cut_record) drops.appends.below 0 (subst (λ sets. RiseAbove 0 sets) was drops.rising) (λ it higher found. subst (λ sets. Among it (records_of k sets)) was found))
 
-  thinned : Thinned (IsCopied k uploads id old) [] (records_of k old) then.kept
+  pub thinned : Thinned (IsCopied k uploads id old) [] (records_of k old) then.kept
   thinned = subst (λ sets. Thinned (IsCopied k uploads id old) [] (records_of k sets) then.kept) (sym was) then.thinned
 
   wanted_kept : (item : Record) → IsWanted uploads (items_of (records_of k old)) item → Among item (items_of (records_of k old)) → Among item (items_of then.kept)

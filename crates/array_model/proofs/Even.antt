@@ -159,7 +159,7 @@ module _ (array : Array) (shape : Shape) (held : Contents) (leaving : List ℕ) 
         let carried = read_carrier array held (places_now array shape held leaving) numbers id found (omega (arith, code.0, keeps.were)) in
         let kept : kept_by id (valid k sets_left) ≡ kept_by id (valid k sets) =
         ap (kept_by id) (valid_left array shape held leaving k code.0)
-        ∙ kept_stays k [] sets (map rest numbers) code.0 (notes_are_one k sets shows.copies) lose keep id carried in
+        ∙ kept_stays k [] sets (map rest numbers) code.0 lose keep id carried in
         and_from _ _
         (and_from _ _ (le-leb k (length (few id)) many) (ready_stays array held (places_left array shape held leaving) (places_now array shape held leaving) id keeps (standing_ready k (whole id) tests.0)))
         (elim (or_cases _ _ tests.1) [

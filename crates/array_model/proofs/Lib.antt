@@ -39,4 +39,5 @@ pub mod Remains
 pub mod Even
 pub mod OneMap
 pub mod NoteNeed
+pub mod CutsStay
 pub mod Tests

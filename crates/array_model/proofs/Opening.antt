@@ -56,7 +56,7 @@ module _ (k : ℕ) (uploads : List ℕ) (cuts : List Record) (old : List ReadSet
   abbrev pub IsCutCopied : List Placed → Placed → List Placed → Type 0
   IsCutCopied before it after = Counts k uploads old before it after → Among it.item cuts × ((target : ℕ) × (kept : ℕ) × (it.item ≡ Cut target kept))
 
-  cuts_stand_in : StandsIn k uploads old (opened cuts) IsCutCopied (λ item. ⊥)
+  pub cuts_stand_in : StandsIn k uploads old (opened cuts) IsCutCopied (λ item. ⊥)
   cuts_stand_in = record {
     wanted = λ before it after gone wanted none. let cut = gone (inl (wanted, none)) in subst (λ (r : Record). IsWanted uploads (items_of (records_of k old)) r) cut.1.2 wanted;
     cut = λ before it after gone last.
@@ -105,32 +105,32 @@ module _ (k : ℕ) (uploads : List ℕ) (cuts : List Record) (old : List ReadSet
           ]
 
 module _ (k : ℕ) (uploads : List ℕ) (cuts : List Record) (old mid : List ReadSet) (some : 0 < k) (opens : OpensWithCuts k uploads cuts old mid) where
-  abbrev top : ReadSet
+  abbrev pub top : ReadSet
   top = opens.opens.top
 
   top_stands : stands k top ≡ true
   top_stands = and_from _ _ (le-leb k top.carriers opens.opens.carriers)
       (ap (list_any is_ready) opens.opens.records ∙ list_any-append is_ready cuts (Ready ∷ []) ∙ or-true (list_any is_ready cuts))
 
-  abbrev extra : List Placed
+  abbrev pub extra : List Placed
   extra = placed_from top.id 0 top.records
 
-  behind : records_of k (top ∷ []) ≡ extra
+  pub behind : records_of k (top ∷ []) ≡ extra
   behind = read_highest k top [] top_stands tt
 
-  are : items_of extra ≡ opened cuts
+  pub are : items_of extra ≡ opened cuts
   are = items_placed top.id 0 top.records ∙ opens.opens.records
 
-  abbrev was : old ≡ old ++ []
+  abbrev pub was : old ≡ old ++ []
   was = sym (append-nil old)
 
-  then : ReadThen k uploads old (opened cuts) (IsCutCopied k uploads cuts old opens.lower opens.each) (λ item. ⊥) (cuts_stand_in k uploads cuts old opens.lower opens.each) some [] (top ∷ []) extra behind are [] (old ++ []) (old ++ top ∷ [])
+  pub then : ReadThen k uploads old (opened cuts) (IsCutCopied k uploads cuts old opens.lower opens.each) (λ item. ⊥) (cuts_stand_in k uploads cuts old opens.lower opens.each) some [] (top ∷ []) extra behind are [] (old ++ []) (old ++ top ∷ [])
   then = read_then k uploads old (opened cuts) (IsCutCopied k uploads cuts old opens.lower opens.each) (λ item. ⊥) (cuts_stand_in k uploads cuts old opens.lower opens.each) some [] (top ∷ []) extra behind are old []
       (ap (records_of k) was) (λ other has. subst (λ sets. HasCarrier sets other) (sym was) has)
       (cuts_or_drops k uploads cuts old opens.lower opens.each some (top ∷ []) extra behind are old 0 (subst (λ sets. RiseAbove 0 sets) was opens.rising)
       (λ it higher found. subst (λ sets. Among it (records_of k sets)) was found) (λ P all. subst (λ sets. AllByRecursion P (valid k sets)) was all))
 
-  thinned : Thinned (IsCutCopied k uploads cuts old opens.lower opens.each) [] (records_of k old) then.kept
+  pub thinned : Thinned (IsCutCopied k uploads cuts old opens.lower opens.each) [] (records_of k old) then.kept
   thinned = subst (λ sets. Thinned (IsCutCopied k uploads cuts old opens.lower opens.each) [] (records_of k sets) then.kept) (sym was) then.thinned
 
   keeps : KeepsWanted uploads (items_of (records_of k old)) (items_of then.kept)

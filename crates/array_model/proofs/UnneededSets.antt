@@ -13,7 +13,7 @@ use Rattle.std.specs.List.{AllZip, AllByRecursion}
 use Rattle.array_model.specs.Sets.{ReadSet, Placed, stands, cut_to, kept_by, placed_from, valid, records_of, least_kept, HasCarrier}
 use Rattle.array_model.specs.Map.{items_of, value_in}
 use Rattle.array_model.specs.Need.{IsNeeded, IsNeededSet}
-use Rattle.array_model.specs.SetLaws.{LosesCarriers, LosesUnneeded, NotesAreOne, SaysTheSame, AreEnough, UnneededSetsMayGo, LossesFollow, FirstNeedIsEnough}
+use Rattle.array_model.specs.SetLaws.{LosesCarriers, LosesUnneeded, NotesAreOne, SaysTheSame, AreEnough, UnneededSetsMayGo, LossesFollow, FirstNeedIsEnough, UnneededKeepCuts}
 use Rattle.array_model.proofs.Sets.{lesser_none, kept_least, cut_records, read_standing, read_fallen, placed_in, standing_carriers, stands_with}
 use Rattle.array_model.proofs.Thinned.{Thinned, Counts, StandsIn, nothing, all_stay, all_go, least_stays, no_more, wanted_stays, part_stays, fewer_thin, among_was, StoodAt, stood, among_items, item_among}
 use Rattle.array_model.proofs.Records.{Among, contains_from_among, among_from_contains, least_at_most, least_is_there}
@@ -126,13 +126,18 @@ has_carrier_was k (set ∷ old) [] lose id has = absurd has
 has_carrier_was k (set ∷ old) (set' ∷ new) lose id (inl here) = let less = lose.0.carriers in let some = here.1 in inl (sym lose.0.id ∙ here.0, omega arith)
 has_carrier_was k (set ∷ old) (set' ∷ new) lose id (inr later) = inr (has_carrier_was k old new lose.1 id later)
 
+-- Of a set with a carrier no more and no fewer records are kept.
+pub kept_stays : (k : ℕ) (uploads : List ℕ) (old new : List ReadSet) → 0 < k → AllLose k old new → AreEnough k uploads old new → (target : ℕ) → HasCarrier old target → kept_by target (valid k new) ≡ kept_by target (valid k old)
+kept_stays k uploads old new some lose enough target there = kept_the_same k uploads old target old new [] there (thin k uploads old some old new [] refl (λ id has. has) lose enough)
+
+pub unneeded_keep_cuts : UnneededKeepCuts
+unneeded_keep_cuts k uploads old new some loses target there =
+    kept_stays k uploads old new some (all_lose_carriers k old new loses.fewer) loses.enough target there
+    ∙ sym (lesser_none (kept_by target (valid k old)))
+
 module _ (k : ℕ) (uploads : List ℕ) (old new : List ReadSet) (some : 0 < k) (notes : NotesAreOne k old) (lose : AllLose k old new) (enough : AreEnough k uploads old new) where
   whole : Thin k uploads old [] (records_of k old) (records_of k new)
   whole = thin k uploads old some old new [] refl (λ id has. has) lose enough
-
-  -- Of a set with a carrier no more and no fewer records are kept.
-  pub kept_stays : (target : ℕ) → HasCarrier old target → kept_by target (valid k new) ≡ kept_by target (valid k old)
-  kept_stays target there = kept_the_same k uploads old target old new [] there whole
 
   stand_in : StandsIn k uploads old [] (IsUnneeded k uploads old) (λ item. ⊥)
   stand_in = nothing_stands_in k uploads old

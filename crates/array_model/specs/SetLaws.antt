@@ -4,7 +4,7 @@ use Rattle.std.specs.Prelude.{◌≡◌, ◌⊎◌, length, take, ℕ, ◌<◌, 
 use Rattle.std.specs.List.{AllZip, AllByRecursion}
 use Rattle.std.specs.FinMap as finmap
 use Rattle.array_model.specs.Record.{Record, Head, Ready, Part, Put, Delete, Cut, note_stamp}
-use Rattle.array_model.specs.Sets.{ReadSet, ValidSet, Placed, AreRising, stands, valid, records_of}
+use Rattle.array_model.specs.Sets.{ReadSet, ValidSet, Placed, AreRising, stands, lesser, least_kept, kept_by, valid, records_of, HasCarrier}
 use Rattle.array_model.specs.Map.{items_of, newest, object_of, value_in, map_of}
 use Rattle.array_model.specs.Need.{IsNeeded, IsNeededSet, IsUploadOfNewest}
 
@@ -240,3 +240,27 @@ pub record IsSameToCut (k : ℕ) (cuts : List Record) (old new : ReadSet) : Type
 -- and its cuts fix what was read: it stays so, whatever comes to stand where sets are cut off.
 abbrev pub OpeningFixesWhatWasRead : Type 0
 OpeningFixesWhatWasRead = (k : ℕ) (uploads : List ℕ) (cuts : List Record) (old old' mid new : List ReadSet) → 0 < k → (it : OpensWithCuts k uploads cuts old mid) → AllZip (λ set set'. (set' ≡ set) ⊎ IsSameToCut k cuts set set') old old' → new ≡ old' ++ it.opens.top ∷ [] → ReadsTheSame k old new
+
+-- Of each set with a carrier as many records are kept as were, or as more cuts keep, where these are fewer.
+abbrev pub CutsStay : ℕ → List Record → List ReadSet → List ReadSet → Type 0
+CutsStay k more old new = (target : ℕ) → HasCarrier old target → kept_by target (valid k new) ≡ lesser (kept_by target (valid k old)) (least_kept target more)
+
+-- So it is where unneeded sets go,
+abbrev pub UnneededKeepCuts : Type 0
+UnneededKeepCuts = (k : ℕ) (uploads : List ℕ) (old new : List ReadSet) → 0 < k → LosesUnneeded k uploads old new → CutsStay k [] old new
+
+-- with copies of needed records,
+abbrev pub CopiesKeepCuts : Type 0
+CopiesKeepCuts = (k : ℕ) (uploads : List ℕ) (more : List Record) (old new : List ReadSet) → AreRising old → CutsAreOfLower k old → Appends k more old new → AllByRecursion (IsCopyOfNeeded k uploads old) more → CutsStay k [] old new
+
+-- with records behind that are no cuts, as with a note,
+abbrev pub OthersKeepCuts : Type 0
+OthersKeepCuts = (k : ℕ) (more : List Record) (old new : List ReadSet) → Appends k more old new → ((target kept : ℕ) → Contains more (Cut target kept) → ⊥) → CutsStay k [] old new
+
+-- where a set is dropped, of which none are kept then,
+abbrev pub DroppedSetKeepsCuts : Type 0
+DroppedSetKeepsCuts = (k : ℕ) (uploads : List ℕ) (id : ℕ) (old new : List ReadSet) → 0 < k → DropsSet k uploads id old new → CutsStay k (Cut id 0 ∷ []) old new
+
+-- and with the cuts of an opening.
+abbrev pub OpeningKeepsCuts : Type 0
+OpeningKeepsCuts = (k : ℕ) (uploads : List ℕ) (cuts : List Record) (old new : List ReadSet) → 0 < k → OpensWithCuts k uploads cuts old new → CutsStay k cuts old new

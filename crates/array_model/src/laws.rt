@@ -1,6 +1,6 @@
 //! Laws of lists of sets. These functions do nothing: their contracts are the theorems.
 
-ghost use Rattle.array_model.specs.SetLaws.{MapHasWhatIsRead, SameValuesSameMap, NewestIsGreatest, NoNewestNoNote, UnneededSetsMayGo, LossesFollow, FirstNeedIsEnough, RecordsWithoutNote, PutNoteIsLast, DeleteNoteIsLast, PutNeedsItsParts, DeleteNeedsNothing, OlderNotesUnneeded, OlderPartsUnneeded, CopiesChangeNothing, CopiesMakeNothingNeeded, CopiedSetHasCopies, DroppedSetIsGone, DroppedSetIsEmpty, DroppedSetMayGo, OpeningChangesNothing, OpeningFixesWhatWasRead};
+ghost use Rattle.array_model.specs.SetLaws.{MapHasWhatIsRead, SameValuesSameMap, NewestIsGreatest, NoNewestNoNote, UnneededSetsMayGo, LossesFollow, FirstNeedIsEnough, RecordsWithoutNote, PutNoteIsLast, DeleteNoteIsLast, PutNeedsItsParts, DeleteNeedsNothing, OlderNotesUnneeded, OlderPartsUnneeded, CopiesChangeNothing, CopiesMakeNothingNeeded, CopiedSetHasCopies, DroppedSetIsGone, DroppedSetIsEmpty, DroppedSetMayGo, OpeningChangesNothing, OpeningFixesWhatWasRead, UnneededKeepCuts, CopiesKeepCuts, OthersKeepCuts, DroppedSetKeepsCuts, OpeningKeepsCuts};
 
 /// The map has for each name what is read of it, so where the same is read of each name the maps are equal.
 pub fn map_is_what_is_read()
@@ -68,4 +68,14 @@ pub fn dropped_set_is_gone()
 pub fn opening_fixes_what_was_read()
     ensures opened { OpeningChangesNothing }
     ensures fixed { OpeningFixesWhatWasRead }
+{}
+
+/// With all of that, of each set that has a carrier as many records are kept as were, or as a new cut keeps. So a set that a
+/// cut settled stays settled.
+pub fn cuts_stay()
+    ensures losses { UnneededKeepCuts }
+    ensures copies { CopiesKeepCuts }
+    ensures others { OthersKeepCuts }
+    ensures dropped { DroppedSetKeepsCuts }
+    ensures opened { OpeningKeepsCuts }
 {}

@@ -9,9 +9,9 @@ mod reading_laws;
 mod removal_laws;
 
 pub use laws::{
-    copies_change_nothing, dropped_set_is_gone, map_is_what_is_read, newest_note_is_greatest,
-    note_is_last, note_renews_need, opening_fixes_what_was_read, records_without_note,
-    unneeded_sets_may_go,
+    copies_change_nothing, cuts_stay, dropped_set_is_gone, map_is_what_is_read,
+    newest_note_is_greatest, note_is_last, note_renews_need, opening_fixes_what_was_read,
+    records_without_note, unneeded_sets_may_go,
 };
 pub use need_laws::{blocks_are_counted, shelf_has_all, tests_tell_need, victims_are_least};
 pub use property::Property;
