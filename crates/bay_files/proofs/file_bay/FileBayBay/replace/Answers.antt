@@ -1,0 +1,10 @@
+use Rattle.std.proofs.Common.{refl}
+use Rattle.zone_bay.specs.Bay.{Replace}
+use Rattle.bay_files.specs.Counts.{shape_in}
+use Rattle.bay_files.proofs.file_bay.FileBayBay.replace.Goals as goal
+
+pub returns-then-not-is_in_time : goal.returns-then-not-is_in_time
+returns-then-not-is_in_time g c = record { call = c.tell.ensures (shape_in c.args.self.now.line) (Replace c.args.device) refl refl }
+
+pub returns : goal.returns
+returns g c = record { call = c.tell-2.ensures (shape_in c.args.self.now.line) (Replace c.args.device) refl refl }
