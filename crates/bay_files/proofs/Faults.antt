@@ -1,11 +1,11 @@
 -- What a call makes of a bay that doesn't tell what it holds: its counts alone change.
-use Rattle.std.proofs.Common.{◌≡◌, ℕ, ◌<◌, ◌≤◌, ◌⊎◌, inl, inr, Bool, true, false, cond, eqb, min, length, List, [], Ok, Err, Result, refl, sym, ap, ◌∙◌, subst, slice_index, slice_set, arith}
+use Rattle.std.proofs.Common.{◌≡◌, ℕ, ◌<◌, ◌≤◌, ◌⊎◌, inl, inr, Bool, true, false, cond, eqb, min, length, [], Ok, Err, refl, sym, ap, ◌∙◌, subst, slice_index, arith}
 use Rattle.std.proofs.lemmas.Bool.{cases_eq, cases_lt}
 use Rattle.std.proofs.lemmas.List.{get_or-set_same, get_or-set_other}
 use Rattle.zone_bay.specs.declared.failed.Failed.{Failed}
 use Rattle.zone_bay.specs.Outside.{last, counted, HasCause}
-use Rattle.zone_bay.specs.Contents.{Shape, Lengths}
-use Rattle.zone_bay.specs.Bay.{BayState, Call, Written, Read, Append, Reset, Flush, Replace, firm_after, reads_after, made_by, device_of, Makes, Elapses, TellsFailure}
+use Rattle.zone_bay.specs.Contents.{Shape}
+use Rattle.zone_bay.specs.Bay.{BayState, Call, Written, Read, Append, Reset, Flush, Replace, firm_after, reads_after, device_of, Makes}
 use Rattle.bay_files.specs.declared.counts.Counts.{Counts}
 use Rattle.bay_files.specs.Counts.{faults_of, HasFailed, faulted, later, with_read, state_of, is_drive_read}
 

@@ -1,5 +1,5 @@
 -- What a bay tells that counts its calls and faults, and doesn't tell what it holds.
-use Rattle.std.specs.Prelude.{◌≡◌, ◌≢◌, ◌⊎◌, ℕ, ◌+◌, ◌<◌, ◌≤◌, Bool, false, nat_lt, if◌then◌else◌, slice_index, slice_set, min, None, Result, IsErr, OnOk, OnErr}
+use Rattle.std.specs.Prelude.{◌≡◌, ℕ, ◌+◌, ◌≤◌, Bool, false, nat_lt, if◌then◌else◌, slice_index, slice_set, min, None, Result}
 use Rattle.zone_bay.specs.declared.failed.Failed.{Failed}
 use Rattle.zone_bay.specs.Outside.{counted}
 use Rattle.zone_bay.specs.Contents.{Shape}

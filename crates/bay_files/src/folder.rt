@@ -1,5 +1,7 @@
 //! The folder of an array: the file `bay`, which tells its shape, and a folder for each device.
 
+ghost use Rattle.std.specs.Prelude.{◌≤◌};
+
 use crate::counts::MAX_DEVICES;
 use crate::zone_files::{device_path, make_folder, sync_folder};
 use smore_base::{Geometry, MAX_BLOCKS, MAX_ZONES};
@@ -17,6 +19,7 @@ pub(crate) struct ShapeLine {
     pub(crate) devices: u8,
     pub(crate) zones: u16,
     pub(crate) blocks: u32,
+    ghost few: { devices ≤ 25 },
 }
 
 impl ShapeLine {
@@ -29,12 +32,14 @@ impl ShapeLine {
 
     /// The shape of an array with this geometry.
     pub(crate) fn of(geometry: &Geometry) -> Option<ShapeLine> {
-        geometry.check().ok()?;
-        Some(ShapeLine {
-            devices: geometry.drives + 1,
-            zones: geometry.zones,
-            blocks: geometry.blocks,
-        })
+        match geometry.check() {
+            Ok(()) => Some(ShapeLine {
+                devices: geometry.drives + 1,
+                zones: geometry.zones,
+                blocks: geometry.blocks,
+            }),
+            Err(_) => None,
+        }
     }
 
     fn text<R: AllocGlobal>(&self, rt: &R) -> Result<String, AllocError> {
@@ -59,23 +64,19 @@ impl ShapeLine {
         ) else {
             return Ok(None);
         };
+        if usize::from(devices) > MAX_DEVICES || zones > MAX_ZONES || blocks > MAX_BLOCKS {
+            return Ok(None);
+        }
         let line = ShapeLine {
             devices,
             zones,
             blocks,
         };
-        let is_same = line.text(rt)?.as_str() == text;
-        if is_same && line.is_within() {
+        if line.text(rt)?.as_str() == text {
             Ok(Some(line))
         } else {
             Ok(None)
         }
-    }
-
-    fn is_within(&self) -> bool {
-        usize::from(self.devices) <= MAX_DEVICES
-            && self.zones <= MAX_ZONES
-            && self.blocks <= MAX_BLOCKS
     }
 }
 

@@ -1,8 +1,7 @@
 use super::*;
 use smore_base::Geometry;
-use std::env;
-use std::fs;
 use std::test::Fail;
+use std::{env, fs};
 use zone_bay::{Bay, Failed};
 
 const GEOMETRY: Geometry = Geometry {
@@ -38,7 +37,11 @@ fn files_keep_what_is_appended(rt: HostRuntime) -> Result<(), Fail> {
     let mut bay = FileBay::create(rt.clone()?, folder.as_str(), &GEOMETRY);
     assert_eq!(rt; (bay.devices(), bay.zones(), bay.blocks()), (3, 8, 128));
     // what is appended, to which zone, and what the zone holds then
-    for (zone, bytes, length) in [(2, b"first".as_slice(), 5), (2, b"second", 11), (7, b"x", 1)] {
+    for (zone, bytes, length) in [
+        (2, b"first".as_slice(), 5),
+        (2, b"second", 11),
+        (7, b"x", 1),
+    ] {
         assert_eq!(rt; bay.append(0, zone, bytes), Ok(()));
         assert_eq!(rt; bay.written(0, zone), Ok(length));
     }
@@ -48,7 +51,10 @@ fn files_keep_what_is_appended(rt: HostRuntime) -> Result<(), Fail> {
     drop(bay);
     let mut bay = FileBay::at(rt.clone()?, folder.as_str());
     assert_eq!(rt; (bay.devices(), bay.zones(), bay.blocks()), (3, 8, 128));
-    assert_eq!(rt; held(&rt, &mut bay, 2)?.as_slice(), b"firstsecond".as_slice());
+    assert_eq!(rt;
+        held(&rt, &mut bay, 2)?.as_slice(),
+        b"firstsecond".as_slice()
+    );
     assert_eq!(rt; bay.reset(0, 2), Ok(()));
     assert_eq!(rt; held(&rt, &mut bay, 2)?.len(), 0);
     assert_eq!(rt; held(&rt, &mut bay, 7)?.as_slice(), b"x".as_slice());
@@ -57,7 +63,10 @@ fn files_keep_what_is_appended(rt: HostRuntime) -> Result<(), Fail> {
     // bytes that aren't held, and more than a zone has room for
     assert_eq!(rt; bay.read(0, 2, 0, &mut [0]), Err(Failed));
     let moment = bay.moment();
-    assert_eq!(rt; bay.append(0, 2, &vec![in rt.alloc(); 0; 128 * 512 + 1]?), Err(Failed));
+    assert_eq!(rt;
+        bay.append(0, 2, &vec![in rt.alloc(); 0; 128 * 512 + 1]?),
+        Err(Failed)
+    );
     assert_eq!(rt; bay.moment(), moment + 1);
     drop(bay);
     fs::remove_dir_all(&rt, folder.as_str())?;

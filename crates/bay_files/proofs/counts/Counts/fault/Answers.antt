@@ -1,4 +1,4 @@
-use Rattle.std.proofs.Common.{◌≡◌, ℕ, false, Err, sym, subst}
+use Rattle.std.proofs.Common.{ℕ, false, Err, sym, subst}
 use Rattle.bay_files.specs.declared.counts.Counts.{Counts}
 use Rattle.bay_files.specs.Counts.{TellsCall}
 use Rattle.bay_files.proofs.Faults.{failed}
