@@ -1,0 +1,39 @@
+use smore_base::Memory;
+use std::alloc::{AllocError, AllocFailed};
+use std::fmt;
+
+/// Why a file of rows can't be run.
+#[derive(Clone, Copy, Debug, PartialEq, Eq)]
+pub(crate) enum Fault {
+    /// No memory was found.
+    Memory,
+    /// The line is none of the language.
+    BadLine,
+}
+
+impl From<AllocError> for Fault {
+    fn from(_: AllocError) -> Fault {
+        Fault::Memory
+    }
+}
+
+impl<T: Drop> From<AllocFailed<T>> for Fault {
+    fn from(_: AllocFailed<T>) -> Fault {
+        Fault::Memory
+    }
+}
+
+impl From<Memory> for Fault {
+    fn from(_: Memory) -> Fault {
+        Fault::Memory
+    }
+}
+
+impl fmt::Display for Fault {
+    fn fmt<W: fmt::Write>(&self, f: &mut fmt::Formatter<W>) -> fmt::Result {
+        match self {
+            Fault::Memory => write!(f, "no memory"),
+            Fault::BadLine => write!(f, "a bad line"),
+        }
+    }
+}
