@@ -1,5 +1,6 @@
 use super::*;
 use smore_base::Geometry;
+use std::process::Abort;
 use std::test::Fail;
 use std::{env, fs};
 use zone_bay::{Bay, Failed};
@@ -23,51 +24,78 @@ fn fresh_folder(rt: &HostRuntime) -> Result<String, Fail> {
     Ok(folder)
 }
 
-/// What a zone holds, read at once.
-fn held(rt: &HostRuntime, bay: &mut FileBay<HostRuntime>, zone: u16) -> Result<Vec<u8>, Fail> {
-    let length = bay.written(0, zone).map_err(|_| "written")?;
-    let mut bytes = vec![in rt.alloc(); 0; length as usize]?;
-    bay.read(0, zone, 0, &mut bytes).map_err(|_| "read")?;
-    Ok(bytes)
+/// A call on zones of drive 0.
+#[derive(Clone, Copy)]
+enum Step {
+    /// Bytes are appended.
+    Append(u16, &'static [u8]),
+    /// The zone holds these bytes.
+    Holds(u16, &'static [u8]),
+    Flush,
+    Reset(u16),
+    Replace,
 }
+
+/// What a zone holds, in a buffer with room for it.
+fn held(rt: &impl Abort, bay: &mut FileBay<HostRuntime>, zone: u16, buffer: &mut [u8]) -> usize {
+    assert!(rt; bay.devices() == 3 && zone < bay.zones());
+    let length = bay.written(0, zone).unwrap_or(0) as usize;
+    let out = &mut buffer[..length.min(64)];
+    assert!(rt; bay.devices() == 3 && zone < bay.zones());
+    assert_eq!(rt; bay.read(0, zone, 0, out), Ok(()));
+    length
+}
+
+fn take(rt: &impl Abort, bay: &mut FileBay<HostRuntime>, step: Step) {
+    let mut buffer = [0; 64];
+    assert!(rt; bay.devices() == 3 && bay.zones() == 8);
+    let answer = match step {
+        Step::Append(zone, bytes) if zone < 8 => bay.append(0, zone, bytes),
+        Step::Reset(zone) if zone < 8 => bay.reset(0, zone),
+        Step::Flush => bay.flush(0),
+        Step::Replace => bay.replace(0),
+        Step::Holds(zone, bytes) => {
+            let length = held(rt, bay, zone, &mut buffer);
+            assert_eq!(rt; buffer.get(..length), Some(bytes));
+            Ok(())
+        }
+        _ => Err(Failed),
+    };
+    assert_eq!(rt; answer, Ok(()));
+}
+
+/// What is done, and once the folder is opened again.
+const STEPS: [&[Step]; 2] = [
+    &[
+        Step::Append(2, b"first"),
+        Step::Append(2, b"second"),
+        Step::Append(7, b"x"),
+        Step::Holds(2, b"firstsecond"),
+        Step::Flush,
+    ],
+    &[
+        Step::Holds(2, b"firstsecond"),
+        Step::Reset(2),
+        Step::Holds(2, b""),
+        Step::Holds(7, b"x"),
+        Step::Replace,
+        Step::Holds(7, b""),
+    ],
+];
 
 #[test]
 fn files_keep_what_is_appended(rt: HostRuntime) -> Result<(), Fail> {
     let folder = fresh_folder(&rt)?;
     let mut bay = FileBay::create(rt.clone()?, folder.as_str(), &GEOMETRY);
-    assert_eq!(rt; (bay.devices(), bay.zones(), bay.blocks()), (3, 8, 128));
-    // what is appended, to which zone, and what the zone holds then
-    for (zone, bytes, length) in [
-        (2, b"first".as_slice(), 5),
-        (2, b"second", 11),
-        (7, b"x", 1),
-    ] {
-        assert_eq!(rt; bay.append(0, zone, bytes), Ok(()));
-        assert_eq!(rt; bay.written(0, zone), Ok(length));
+    for steps in STEPS {
+        for step in steps {
+            take(&rt, &mut bay, *step);
+        }
+        // one program at a time
+        assert_eq!(rt; FileBay::at(rt.clone()?, folder.as_str()).devices(), 0);
+        drop(bay);
+        bay = FileBay::at(rt.clone()?, folder.as_str());
     }
-    assert_eq!(rt; bay.flush(0), Ok(()));
-    // one program at a time
-    assert_eq!(rt; FileBay::at(rt.clone()?, folder.as_str()).devices(), 0);
-    drop(bay);
-    let mut bay = FileBay::at(rt.clone()?, folder.as_str());
-    assert_eq!(rt; (bay.devices(), bay.zones(), bay.blocks()), (3, 8, 128));
-    assert_eq!(rt;
-        held(&rt, &mut bay, 2)?.as_slice(),
-        b"firstsecond".as_slice()
-    );
-    assert_eq!(rt; bay.reset(0, 2), Ok(()));
-    assert_eq!(rt; held(&rt, &mut bay, 2)?.len(), 0);
-    assert_eq!(rt; held(&rt, &mut bay, 7)?.as_slice(), b"x".as_slice());
-    assert_eq!(rt; bay.replace(0), Ok(()));
-    assert_eq!(rt; held(&rt, &mut bay, 7)?.len(), 0);
-    // bytes that aren't held, and more than a zone has room for
-    assert_eq!(rt; bay.read(0, 2, 0, &mut [0]), Err(Failed));
-    let moment = bay.moment();
-    assert_eq!(rt;
-        bay.append(0, 2, &vec![in rt.alloc(); 0; 128 * 512 + 1]?),
-        Err(Failed)
-    );
-    assert_eq!(rt; bay.moment(), moment + 1);
     drop(bay);
     fs::remove_dir_all(&rt, folder.as_str())?;
     assert_eq!(rt; FileBay::at(rt.clone()?, folder.as_str()).devices(), 0);
