@@ -1,6 +1,6 @@
 //! One run of the store.
 
-ghost use Rattle.std.specs.Prelude.{◌<◌, ◌≤◌, All, IfOk, vec_len};
+ghost use Rattle.std.specs.Prelude.{◌<◌, ◌≤◌, All, IfOk, OnOk, vec_len};
 
 use crate::fault::Fault;
 use crate::row::{Script, Stream};
@@ -51,7 +51,7 @@ fn add_pieces(
 ) -> Result<(), Fault>
     requires some { 1 ≤ size }
     requires full { All (λ piece. 0 < vec_len piece) pieces.old.items }
-    ensures full { All (λ piece. 0 < vec_len piece) pieces.new.items }
+    ensures full { OnOk result (All (λ piece. 0 < vec_len piece) pieces.new.items) }
 {
     for chunk in bytes.chunks(size) {
         pieces.push(Vec::from_slice(alloc, chunk)?)?;
