@@ -83,7 +83,10 @@ pub(crate) fn first_name(fields: &[u8]) -> Option<(&[u8], &[u8])> {
 fn told_names(alloc: Global, more: u8, fields: &[u8]) -> Result<String, AllocError> {
     let mut text = String::from_str(alloc, "names")?;
     let mut rest = fields;
-    while let Some((name, behind)) = first_name(rest) {
+    for _ in 0..fields.len() {
+        let Some((name, behind)) = first_name(rest) else {
+            break;
+        };
         text.push(' ')?;
         text.push_str(&word_of(alloc, name)?)?;
         rest = behind;

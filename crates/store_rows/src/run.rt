@@ -1,6 +1,6 @@
 //! One run of the store.
 
-ghost use Rattle.std.specs.Prelude.{◌<◌, ◌≤◌, All, IfOk, OnOk, vec_len};
+ghost use Rattle.std.specs.Prelude.{◌<◌, ◌≤◌, All, IfOk, vec_len};
 
 use crate::fault::Fault;
 use crate::row::{Script, Stream};
@@ -49,9 +49,7 @@ fn add_pieces(
     bytes: &[u8],
     size: usize,
 ) -> Result<(), Fault>
-    requires some { 1 ≤ size }
-    requires full { All (λ piece. 0 < vec_len piece) pieces.old.items }
-    ensures full { OnOk result (All (λ piece. 0 < vec_len piece) pieces.new.items) }
+    requires { 1 ≤ size }
 {
     for chunk in bytes.chunks(size) {
         pieces.push(Vec::from_slice(alloc, chunk)?)?;
@@ -68,7 +66,11 @@ fn pieces_of(alloc: Global, input: &[u8], size: usize, cut: usize) -> Result<Vec
     let (first, second) = input.split_at(cut.min(input.len()));
     add_pieces(alloc, &mut pieces, first, size)?;
     add_pieces(alloc, &mut pieces, second, size)?;
-    Ok(pieces)
+    if pieces.iter().all(|piece| !piece.is_empty()) {
+        Ok(pieces)
+    } else {
+        Err(Fault::BadLine)
+    }
 }
 
 /// What a run gave.

@@ -42,7 +42,10 @@ fn list_frame(alloc: Global) -> Result<Vec<u8>, Fault> {
 fn gets(alloc: Global, names: &[u8]) -> Result<Vec<u8>, Fault> {
     let mut input = Vec::new(alloc);
     let mut rest = names;
-    while let Some((name, behind)) = first_name(rest) {
+    for _ in 0..names.len() {
+        let Some((name, behind)) = first_name(rest) else {
+            break;
+        };
         input.extend_from_slice(&frame(alloc, 2, &[&length_of(name), name])?)?;
         rest = behind;
     }
@@ -54,7 +57,10 @@ fn objects_of(alloc: Global, names: &[u8], replies: &[u8]) -> Result<Objects, Fa
     let mut objects = BTreeMap::new(alloc);
     let mut rest = names;
     let mut behind = replies;
-    while let Some((name, more)) = first_name(rest) {
+    for _ in 0..names.len() {
+        let Some((name, more)) = first_name(rest) else {
+            break;
+        };
         let (reply, later) = split_first(behind);
         if let Some((2, object)) = opened(reply) {
             let name = Vec::from_slice(alloc, name)?;
