@@ -25,7 +25,7 @@ pub fn removals_follow()
 
 /// So what each removal with enough keeps holds of each remains, whatever property of arrays it is.
 pub fn all_removals_keep<P: Property>()
-    ensures { HoldsOfRemains P.holds }
+    ensures { (value : P) → HoldsOfRemains (P.holds value) }
 {}
 
 /// Two such properties: that an array is kept, and that it has but one possible map.
