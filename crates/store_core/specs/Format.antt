@@ -1,0 +1,35 @@
+-- What formatting makes of the devices.
+use Rattle.std.specs.Prelude.{◌≡◌, ◌≢◌, ◌⊎◌, ℕ, ◌<◌, ◌≤◌, List, []}
+use Rattle.smore_base.specs.declared.geometry.Geometry.{Geometry}
+use Rattle.zone_bay.specs.Contents.{Shape, Contents}
+use Rattle.marker_format.specs.Block.{label_block}
+use Rattle.store_core.specs.Label.{label_of}
+
+-- one zone holds these bytes now, and the others what they held
+pub record ZoneHolds (device zone : ℕ) (bytes : List ℕ) (before after : Contents) : Type 0 where
+  pub bytes_now : after device zone ≡ bytes
+  pub others : (d z : ℕ) → (d ≢ device) ⊎ (z ≢ zone) → after d z ≡ before d z
+
+-- the first zones of a device are empty, so many of them, and the other devices hold what they held
+pub record AreEmptied (device count : ℕ) (before after : Contents) : Type 0 where
+  pub empty : (z : ℕ) → z < count → after device z ≡ []
+  pub others : (d z : ℕ) → d ≢ device → after d z ≡ before d z
+
+-- a device of so many zones holds this block alone, in its first zone
+pub record HoldsOnly (zones : ℕ) (block : List ℕ) (held : ℕ → List ℕ) : Type 0 where
+  pub first : held 0 ≡ block
+  pub rest : (z : ℕ) → 1 ≤ z → z < zones → held z ≡ []
+
+-- a device holds this block alone now, and the other devices what they held
+pub record DeviceHolds (device zones : ℕ) (block : List ℕ) (before after : Contents) : Type 0 where
+  pub only : HoldsOnly zones block (after device)
+  pub others : (d z : ℕ) → d ≢ device → after d z ≡ before d z
+
+-- the first devices, so many of them, hold their labels alone
+abbrev pub AreFormatted : ℕ → ℕ → Geometry → List ℕ → Contents → Type 0
+AreFormatted count zones geometry array held =
+    (d : ℕ) → d < count → HoldsOnly zones (label_block (label_of d geometry array)) (held d)
+
+-- Each device holds nothing but its label, at the front of its first zone.
+abbrev pub IsFormatted : Shape → Geometry → List ℕ → Contents → Type 0
+IsFormatted shape geometry array held = AreFormatted shape.devices shape.zones geometry array held

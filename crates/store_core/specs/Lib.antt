@@ -1,0 +1,9 @@
+pub mod Label
+pub mod DeviceCalls
+pub mod Format
+pub mod Extent
+pub mod Store
+pub mod Index
+pub mod Zone
+pub mod Opening
+pub mod Core

@@ -1,0 +1,63 @@
+-- What the records of an open set's zone say of where the next one goes, and which records a set begins with.
+use Rattle.std.specs.Prelude.{◌≡◌, ℕ, ◌+◌, ◌*◌, ◌/◌, max, List, [], ◌∷◌, ◌++◌, length, None, if◌then◌else◌}
+use Rattle.smore_base.specs.declared.limits.TheConstants.{BLOCK_BYTES}
+use Rattle.marker_format.specs.declared.kind.Kind.{Kind}
+use Rattle.marker_format.specs.declared.kind.Kind.TheVariants.{Head, Ready, Cut}
+use Rattle.marker_format.specs.declared.marker.Marker.{Marker}
+use Rattle.marker_format.specs.Kind.{code_of}
+use Rattle.marker_format.specs.Block.{marker_block}
+use Rattle.marker_format.specs.Zone.{Array, has_kind, whole_records}
+use Rattle.store_core.specs.declared.store.TheConstants.{FIRST_SET}
+use Rattle.store_core.specs.Store.{Standing}
+
+-- the set of the first of some records
+abbrev pub set_of : List Marker → ℕ
+set_of [] = 0
+set_of (head ∷ ms) = head.set
+
+-- and its index
+abbrev pub index_of : List Marker → ℕ
+index_of [] = 0
+index_of (head ∷ ms) = head.index
+
+-- the greater of a record's stamp and its upload: a cut's upload is a set
+abbrev pub counter_of : Marker → ℕ
+counter_of m = if has_kind Cut m then m.stamp else max m.stamp m.upload
+
+-- the stamp that comes next: one above all of these, from 1
+abbrev pub next_stamp : List Marker → ℕ
+next_stamp [] = 1
+next_stamp (m ∷ ms) = max (counter_of m + 1) (next_stamp ms)
+
+-- where a store stands behind the records of a zone with these bytes
+abbrev pub standing_in : Array → List ℕ → Standing
+standing_in array bytes = record {
+  set = set_of (whole_records array bytes);
+  blocks = length bytes / BLOCK_BYTES;
+  records = length (whole_records array bytes);
+  stamp = next_stamp (whole_records array bytes);
+}
+
+-- a marker of the array without what only some kinds have, in a set that is begun
+abbrev pub first_marker : Array → Kind → ℕ → Marker
+first_marker array kind position = record {
+  kind = code_of kind;
+  index = 0;
+  k = 1;
+  n = 2;
+  set = FIRST_SET;
+  position = position;
+  fragment = 0;
+  stamp = 0;
+  upload = 0;
+  part = 0;
+  parts = 0;
+  length = 0;
+  payload = 0;
+  array = array.id;
+  name = None;
+}
+
+-- a set begins with a head and a ready record
+abbrev pub opening_bytes : Array → List ℕ
+opening_bytes array = marker_block (first_marker array Head 0) ++ marker_block (first_marker array Ready 1)

@@ -1,0 +1,86 @@
+//! The records of a step: their markers, and their blocks.
+
+use crate::blocks::{BLOCK, CONTENT, write_fragment};
+use marker_format::{Kind, Marker, write_marker_block};
+use smore_base::Name;
+
+/// Where a record goes: its set and index, how many records stand before it, and the array.
+#[derive(Clone, Copy, Debug)]
+pub(crate) struct RecordPlace {
+    pub(crate) set: u64,
+    pub(crate) index: u8,
+    pub(crate) position: u16,
+    pub(crate) array: [u8; 16],
+}
+
+impl RecordPlace {
+    /// A marker without what only some kinds have.
+    pub(crate) fn marker(&self, kind: Kind) -> Marker {
+        Marker {
+            kind: kind.number(),
+            index: self.index,
+            k: 1,
+            n: 2,
+            set: self.set,
+            position: self.position,
+            fragment: 0,
+            stamp: 0,
+            upload: 0,
+            part: 0,
+            parts: 0,
+            length: 0,
+            payload: 0,
+            array: self.array,
+            name: None,
+        }
+    }
+
+    /// The marker of an upload's only part.
+    pub(crate) fn part(&self, upload: u64, bytes: u16) -> Marker {
+        Marker {
+            fragment: bytes,
+            upload,
+            payload: u32::from(bytes),
+            ..self.marker(Kind::Part)
+        }
+    }
+
+    /// The note of a put, whose stamp is its upload's number too.
+    pub(crate) fn put_note(&self, stamp: u64, length: u32, name: Name) -> Marker {
+        Marker {
+            stamp,
+            upload: stamp,
+            parts: if length == 0 { 0 } else { 1 },
+            length,
+            name: Some(name),
+            ..self.marker(Kind::Put)
+        }
+    }
+
+    /// The note of a delete.
+    pub(crate) fn delete_note(&self, stamp: u64, name: Name) -> Marker {
+        Marker {
+            stamp,
+            name: Some(name),
+            ..self.marker(Kind::Delete)
+        }
+    }
+
+    /// The place behind one record more.
+    pub(crate) fn next(self) -> RecordPlace {
+        RecordPlace {
+            set: self.set,
+            index: self.index,
+            position: self.position + 1,
+            array: self.array,
+        }
+    }
+}
+
+/// Writes the blocks of a record at the front, and answers how many bytes they are.
+pub(crate) fn write_record(marker: &Marker, fragment: &[u8], out: &mut [u8]) -> usize {
+    write_marker_block(marker, &mut out[..BLOCK]);
+    let end = BLOCK + BLOCK * fragment.len().div_ceil(CONTENT);
+    write_fragment(fragment, &mut out[BLOCK..end]);
+    end
+}
