@@ -1,3 +1,4 @@
+pub mod Blocks
 pub mod Label
 pub mod DeviceCalls
 pub mod Format
