@@ -1,9 +1,10 @@
 -- What formatting makes of the devices.
-use Rattle.std.specs.Prelude.{◌≡◌, ◌≢◌, ◌⊎◌, ℕ, ◌<◌, ◌≤◌, List, []}
-use Rattle.smore_base.specs.declared.geometry.Geometry.{Geometry}
-use Rattle.zone_bay.specs.Contents.{Shape, Contents}
+use Rattle.std.specs.Prelude.{◌≡◌, ◌≢◌, ◌⊎◌, ℕ, ◌<◌, ◌≤◌, List, [], length, IfSome}
+use Rattle.zone_bay.specs.Contents.{Contents}
+use Rattle.zone_bay.specs.Bay.{BayState}
 use Rattle.marker_format.specs.Block.{label_block}
-use Rattle.store_core.specs.Label.{label_of}
+use Rattle.marker_format.specs.Zone.{Array}
+use Rattle.array_model.specs.Kept.{label_of}
 
 -- one zone holds these bytes now, and the others what they held
 pub record ZoneHolds (device zone : ℕ) (bytes : List ℕ) (before after : Contents) : Type 0 where
@@ -26,10 +27,13 @@ pub record DeviceHolds (device zones : ℕ) (block : List ℕ) (before after : C
   pub others : (d z : ℕ) → d ≢ device → after d z ≡ before d z
 
 -- the first devices, so many of them, hold their labels alone
-abbrev pub AreFormatted : ℕ → ℕ → Geometry → List ℕ → Contents → Type 0
-AreFormatted count zones geometry array held =
-    (d : ℕ) → d < count → HoldsOnly zones (label_block (label_of d geometry array)) (held d)
+abbrev pub AreFormatted : ℕ → ℕ → Array → Contents → Type 0
+AreFormatted count zones array held = (d : ℕ) → d < count → HoldsOnly zones (label_block (label_of array d)) (held d)
 
--- Each device holds nothing but its label, at the front of its first zone.
-abbrev pub IsFormatted : Shape → Geometry → List ℕ → Contents → Type 0
-IsFormatted shape geometry array held = AreFormatted shape.devices shape.zones geometry array held
+-- all that the device holds is firm
+abbrev pub IsFirmOn : ℕ → BayState → Type 0
+IsFirmOn device bay = IfSome bay.contents (λ held. (z : ℕ) → bay.firm device z ≡ length (held device z))
+
+-- each other device that was so still is
+abbrev pub KeepsFirm : ℕ → BayState → BayState → Type 0
+KeepsFirm device old new = (d : ℕ) → d ≢ device → IsFirmOn d old → IsFirmOn d new

@@ -2,12 +2,11 @@ ghost use Rattle.std.specs.Prelude.{◌≡◌, ◌≢◌, ℕ, ◌*◌, ◌<◌,
 ghost use Rattle.smore_base.specs.Geometry.{IsWithinLimits};
 ghost use Rattle.smore_base.specs.Told.{Told};
 ghost use Rattle.zone_bay.specs.Outside.{Rose};
-ghost use Rattle.zone_bay.specs.Images.{flushed};
-ghost use Rattle.zone_bay.specs.Bay.{held_in};
 ghost use Rattle.store_core.specs.DeviceCalls.{CallsOn};
 ghost use Rattle.marker_format.specs.Block.{label_block};
-ghost use Rattle.store_core.specs.Label.{IsOfBay, label_of};
-ghost use Rattle.store_core.specs.Format.{ZoneHolds, AreEmptied, DeviceHolds, IsFormatted};
+ghost use Rattle.array_model.specs.Kept.{IsFormatted};
+ghost use Rattle.store_core.specs.Label.{IsOfBay};
+ghost use Rattle.store_core.specs.Format.{ZoneHolds, AreEmptied, DeviceHolds, IsFirmOn, KeepsFirm};
 
 use crate::bay_label::VERSION;
 use crate::blocks::BLOCK;
@@ -36,6 +35,7 @@ fn empty_zone<B: Bay>(bay: &mut B, device: u8, zone: u16) -> Result<(), Failed>
     requires device_in { device < (B.state bay.old).shape.devices }
     requires zone_in { zone < (B.state bay.old).shape.zones }
     ensures ok { OnOk result (Told (B.state bay.old).contents (B.state bay.new).contents (ZoneHolds device zone [])) }
+    ensures kept { KeepsFirm device (B.state bay.old) (B.state bay.new) }
     ensures calls { CallsOn device (B.state bay.old) (B.state bay.new) result }
 {
     if bay.written(device, zone)? == 0 {
@@ -48,6 +48,7 @@ fn empty_zone<B: Bay>(bay: &mut B, device: u8, zone: u16) -> Result<(), Failed>
 fn empty_device<B: Bay>(bay: &mut B, device: u8) -> Result<(), Failed>
     requires { device < (B.state bay.old).shape.devices }
     ensures ok { OnOk result (Told (B.state bay.old).contents (B.state bay.new).contents (AreEmptied device (B.state bay.old).shape.zones)) }
+    ensures kept { KeepsFirm device (B.state bay.old) (B.state bay.new) }
     ensures calls { CallsOn device (B.state bay.old) (B.state bay.new) result }
 {
     for zone in 0..bay.zones() {
@@ -63,8 +64,8 @@ fn begin_device<B: Bay>(bay: &mut B, device: u8, block: &[u8]) -> Result<(), Fai
     requires fits { length block.now ≤ 512 * (B.state bay.old).shape.blocks }
     requires empty { IfSome (B.state bay.old).contents (λ held. held device 0 ≡ []) }
     ensures ok { OnOk result (Told (B.state bay.old).contents (B.state bay.new).contents (ZoneHolds device 0 block.now)) }
-    ensures firm { OnOk result
-        ((B.state bay.new).firm ≡ flushed device (held_in (B.state bay.new)) (B.state bay.old).firm) }
+    ensures firm { OnOk result (IsFirmOn device (B.state bay.new)) }
+    ensures kept { KeepsFirm device (B.state bay.old) (B.state bay.new) }
     ensures calls { CallsOn device (B.state bay.old) (B.state bay.new) result }
 {
     bay.append(device, 0, block)?;
@@ -77,6 +78,8 @@ fn format_device<B: Bay>(bay: &mut B, device: u8, block: &[u8]) -> Result<(), Fa
     requires zone_in { 0 < (B.state bay.old).shape.zones }
     requires fits { length block.now ≤ 512 * (B.state bay.old).shape.blocks }
     ensures ok { OnOk result (Told (B.state bay.old).contents (B.state bay.new).contents (DeviceHolds device (B.state bay.old).shape.zones block.now)) }
+    ensures firm { OnOk result (IsFirmOn device (B.state bay.new)) }
+    ensures kept { KeepsFirm device (B.state bay.old) (B.state bay.new) }
     ensures calls { CallsOn device (B.state bay.old) (B.state bay.new) result }
 {
     empty_device(bay, device)?;
@@ -89,7 +92,9 @@ impl<B: Bay> Core<B> {
     pub fn format(bay: &mut B, geometry: &Geometry, array: [u8; 16]) -> Result<(), FormatFailed>
         requires within { IsWithinLimits geometry.now }
         requires shaped { IsOfBay (B.state bay.old).shape geometry.now }
-        ensures ok { OnOk result (Told (B.state bay.old).contents (B.state bay.new).contents (λ _ held. IsFormatted (B.state bay.old).shape geometry.now array held)) }
+        ensures ok { OnOk result (Told (B.state bay.old).contents (B.state bay.new).contents
+            (λ _ held. IsFormatted (record { geometry = geometry.now; id = array }) (B.state bay.old).shape held)) }
+        ensures firm { OnOk result ((d : ℕ) → d < (B.state bay.old).shape.devices → IsFirmOn d (B.state bay.new)) }
         ensures counts { OnOk result ((d : ℕ) → (B.state bay.new).faults d ≡ (B.state bay.old).faults d) }
         ensures failed { IfErr result (λ failed. (failed.device < (B.state bay.old).shape.devices) × Rose ((B.state bay.old).faults failed.device) ((B.state bay.new).faults failed.device)) }
         ensures others { IfErr result (λ failed. (d : ℕ) → d ≢ failed.device → (B.state bay.new).faults d ≡ (B.state bay.old).faults d) }

@@ -1,7 +1,7 @@
 use crate::append::refused;
-use crate::blocks::{BLOCK, blocks_of, read_fragment};
 use crate::index::{Extent, Note};
-use crate::store::{Core, DRIVE, ZONE};
+use crate::store::Core;
+use crate::zone_calls::read_record;
 use object_machine::{MAX_OBJECT_BYTES, Refusal, Reply};
 use smore_base::{Bytes, Name, NameBad};
 use zone_bay::{Bay, Failed};
@@ -53,19 +53,9 @@ impl<B: Bay> Core<B> {
                 return Ok(());
             };
             let end = at + part.bytes as usize;
-            self.read_part(part.block, &mut out[at..end])?;
+            read_record(&mut self.bay, part.block, &mut self.buffer, &mut out[at..end])?;
             at = end;
         }
-        Ok(())
-    }
-
-    /// Fills `out` with the fragment of the record whose marker stands at this block.
-    fn read_part(&mut self, block: u32, out: &mut [u8]) -> Result<(), Failed> {
-        let bytes = BLOCK * blocks_of(out.len() as u32) as usize;
-        let blocks = &mut self.buffer[..bytes];
-        self.bay
-            .read(DRIVE, ZONE, BLOCK as u32 * (block + 1), blocks)?;
-        read_fragment(blocks, out);
         Ok(())
     }
 }
