@@ -1,6 +1,7 @@
 -- A fragment is read again from its blocks, whatever stands before and behind them.
 use Rattle.std.proofs.Common.{◌≡◌, ℕ, inl, inr, zero, suc, ◌+◌, ◌-◌, ◌*◌, ◌/◌, ◌<◌, ◌≤◌, min, List, [], ◌∷◌, ◌++◌, length, take, drop, replicate, arith, refl, sym, ap, subst, ◌∙◌, append_assoc, length-append, length-take, length-drop, take-append-drop}
-use Rattle.std.specs.Int.{div_ceil}
+use Rattle.std.specs.Prelude.{Option, Some, None, IfSome}
+use Rattle.zone_bay.specs.Contents.{Contents}
 use Rattle.std.specs.List.{flat_map, range_with_len}
 use Rattle.std.proofs.lemmas.List.{take_at, drop_at, take_all, take_min, take-take, take-append-le, drop-append-le, drop-drop, drop-take, nil_from_length, append-nil, length-replicate}
 use Rattle.std.proofs.lemmas.Slice.{take-put_mid}
@@ -179,3 +180,33 @@ fragment_at-end zone bytes block end =
     fragment_read (zone ++ fragment_blocks bytes) block (length bytes) (omega (arith, length-append zone (fragment_blocks bytes), length-blocks_from (blocks_of (length bytes)) bytes))
     ∙ ap (λ (l : List ℕ). content_from (blocks_of (length bytes)) l (length bytes)) (drop_at zone (fragment_blocks bytes) (512 * block) end)
     ∙ content_again (blocks_of (length bytes)) bytes (omega arith)
+
+-- the blocks of a fragment, taken out of a zone, have it too
+pub fragment_at-part : (zone part : List ℕ) (at block bytes : ℕ) → at ≡ 512 * block → part ≡ take (length part) (drop at zone) → length part ≡ 512 * blocks_of bytes → 512 * (block + blocks_of bytes) ≤ length zone → fragment_at part 0 bytes ≡ fragment_at zone block bytes
+fragment_at-part zone part at block bytes place is long within =
+    let here = drop (512 * block) zone in
+    let count = blocks_of bytes in
+    let part_is : part ≡ take (512 * count) here = is ∙ ap (λ n. take n (drop at zone)) long ∙ ap (λ n. take (512 * count) (drop n zone)) place in
+    fragment_read part 0 bytes (omega (arith, long))
+    ∙ ap (λ (l : List ℕ). content_from count l bytes) part_is
+    ∙ sym (content_from-front count (take (512 * count) here) (drop (512 * count) here) bytes (omega (arith, length-take (512 * count) here, length-drop (512 * block) zone)))
+    ∙ ap (λ (l : List ℕ). content_from count l bytes) (take-append-drop (512 * count) here)
+    ∙ sym (fragment_read zone block bytes within)
+
+-- the same where the contents are told
+pub part_told : (contents : Option Contents) (part out : List ℕ) (at block bytes : ℕ) → at ≡ 512 * block → length part ≡ 512 * blocks_of bytes → out ≡ fragment_at part 0 bytes
+    → IfSome contents (λ held. 512 * (block + blocks_of bytes) ≤ length (held 0 2)) → IfSome contents (λ held. part ≡ take (length part) (drop at (held 0 2))) → IfSome contents (λ held. out ≡ fragment_at (held 0 2) block bytes)
+part_told None part out at block bytes place long is within reads = tt
+part_told (Some held) part out at block bytes place long is within reads = is ∙ fragment_at-part (held 0 2) part at block bytes place reads long within
+
+-- a record's marker and its fragment were written at the front
+pub record_written : (out marker block fragment : List ℕ) (n k : ℕ) → block ≡ marker → length block ≡ 512 → n ≡ 512 + k - 512 → length fragment ≡ n → 512 + k ≤ length out
+    → put_mid 512 n (block ++ drop 512 out) fragment ≡ (marker ++ fragment) ++ drop (512 + k) out
+record_written out marker block fragment n k is long width size room =
+    let front : take 512 (block ++ drop 512 out) ≡ block = take_at block (drop 512 out) 512 long in
+    let behind : drop n (drop 512 (block ++ drop 512 out)) ≡ drop (512 + k) out =
+    ap (drop n) (drop_at block (drop 512 out) 512 long) ∙ drop-drop n 512 out ∙ ap (λ j. drop j out) (omega arith) in
+    ap (λ (l : List ℕ). l ++ (fragment ++ drop n (drop 512 (block ++ drop 512 out)))) front
+    ∙ ap (λ (l : List ℕ). block ++ (fragment ++ l)) behind
+    ∙ sym (append_assoc block fragment (drop (512 + k) out))
+    ∙ ap (λ (l : List ℕ). (l ++ fragment) ++ drop (512 + k) out) is

@@ -1,3 +1,4 @@
+pub mod AppendSteps
 pub mod BlockLaws
 pub mod CallSteps
 pub mod FormatSteps

@@ -3,6 +3,7 @@ pub mod Label
 pub mod DeviceCalls
 pub mod Format
 pub mod Extent
+pub mod Records
 pub mod Store
 pub mod Index
 pub mod Zone

@@ -1,13 +1,12 @@
 -- What the records of an open set's zone say of where the next one goes, and which records a set begins with.
-use Rattle.std.specs.Prelude.{◌≡◌, ℕ, ◌+◌, ◌*◌, ◌/◌, max, List, [], ◌∷◌, ◌++◌, length, None, if◌then◌else◌}
+use Rattle.std.specs.Prelude.{◌≡◌, ℕ, ◌+◌, ◌*◌, ◌/◌, max, List, [], ◌∷◌, ◌++◌, length, if◌then◌else◌}
 use Rattle.smore_base.specs.declared.limits.TheConstants.{BLOCK_BYTES}
-use Rattle.marker_format.specs.declared.kind.Kind.{Kind}
 use Rattle.marker_format.specs.declared.kind.Kind.TheVariants.{Head, Ready, Cut}
 use Rattle.marker_format.specs.declared.marker.Marker.{Marker}
-use Rattle.marker_format.specs.Kind.{code_of}
-use Rattle.marker_format.specs.Block.{marker_block}
 use Rattle.marker_format.specs.Zone.{Array, has_kind, whole_records}
 use Rattle.store_core.specs.declared.store.TheConstants.{FIRST_SET}
+use Rattle.store_core.specs.declared.records.RecordPlace.{RecordPlace}
+use Rattle.store_core.specs.Records.{plain_marker, next_place, record_bytes}
 use Rattle.store_core.specs.Store.{Standing}
 
 -- the set of the first of some records
@@ -38,26 +37,10 @@ standing_in array bytes = record {
   stamp = next_stamp (whole_records array bytes);
 }
 
--- a marker of the array without what only some kinds have, in a set that is begun
-abbrev pub first_marker : Array → Kind → ℕ → Marker
-first_marker array kind position = record {
-  kind = code_of kind;
-  index = 0;
-  k = 1;
-  n = 2;
-  set = FIRST_SET;
-  position = position;
-  fragment = 0;
-  stamp = 0;
-  upload = 0;
-  part = 0;
-  parts = 0;
-  length = 0;
-  payload = 0;
-  array = array.id;
-  name = None;
-}
+-- where a set begins
+abbrev pub first_place : Array → RecordPlace
+first_place array = record { set = FIRST_SET; index = 0; position = 0; array = array.id }
 
 -- a set begins with a head and a ready record
 abbrev pub opening_bytes : Array → List ℕ
-opening_bytes array = marker_block (first_marker array Head 0) ++ marker_block (first_marker array Ready 1)
+opening_bytes array = record_bytes (plain_marker (first_place array) Head) [] ++ record_bytes (plain_marker (next_place (first_place array)) Ready) []

@@ -1,4 +1,8 @@
 //! The records of a step: their markers, and their blocks.
+ghost use Rattle.std.specs.Prelude.{◌≡◌, ◌+◌, ◌*◌, ◌<◌, ◌≤◌, ◌^◌, ◌++◌, length, drop};
+ghost use Rattle.marker_format.specs.Marker.{IsMarker};
+ghost use Rattle.store_core.specs.Blocks.{blocks_of};
+ghost use Rattle.store_core.specs.Records.{record_bytes};
 
 use crate::blocks::{BLOCK, CONTENT, write_fragment};
 use marker_format::{Kind, Marker, write_marker_block};
@@ -14,8 +18,12 @@ pub(crate) struct RecordPlace {
 }
 
 impl RecordPlace {
+    ghost use Rattle.store_core.specs.Records.{plain_marker, part_marker, put_marker, delete_marker, next_place};
+
     /// A marker without what only some kinds have.
-    pub(crate) fn marker(&self, kind: Kind) -> Marker {
+    pub(crate) fn marker(&self, kind: Kind) -> Marker
+        ensures { result ≡ plain_marker self.now kind }
+    {
         Marker {
             kind: kind.number(),
             index: self.index,
@@ -36,7 +44,9 @@ impl RecordPlace {
     }
 
     /// The marker of an upload's only part.
-    pub(crate) fn part(&self, upload: u64, bytes: u16) -> Marker {
+    pub(crate) fn part(&self, upload: u64, bytes: u16) -> Marker
+        ensures { result ≡ part_marker self.now upload bytes }
+    {
         Marker {
             fragment: bytes,
             upload,
@@ -46,7 +56,9 @@ impl RecordPlace {
     }
 
     /// The note of a put, whose stamp is its upload's number too.
-    pub(crate) fn put_note(&self, stamp: u64, length: u32, name: Name) -> Marker {
+    pub(crate) fn put_note(&self, stamp: u64, length: u32, name: Name) -> Marker
+        ensures { result ≡ put_marker self.now stamp length name }
+    {
         Marker {
             stamp,
             upload: stamp,
@@ -58,7 +70,9 @@ impl RecordPlace {
     }
 
     /// The note of a delete.
-    pub(crate) fn delete_note(&self, stamp: u64, name: Name) -> Marker {
+    pub(crate) fn delete_note(&self, stamp: u64, name: Name) -> Marker
+        ensures { result ≡ delete_marker self.now stamp name }
+    {
         Marker {
             stamp,
             name: Some(name),
@@ -67,7 +81,10 @@ impl RecordPlace {
     }
 
     /// The place behind one record more.
-    pub(crate) fn next(self) -> RecordPlace {
+    pub(crate) fn next(&self) -> RecordPlace
+        requires { self.now.position + 1 < 2 ^ 16 }
+        ensures { result ≡ next_place self.now }
+    {
         RecordPlace {
             set: self.set,
             index: self.index,
@@ -78,7 +95,12 @@ impl RecordPlace {
 }
 
 /// Writes the blocks of a record at the front, and answers how many bytes they are.
-pub(crate) fn write_record(marker: &Marker, fragment: &[u8], out: &mut [u8]) -> usize {
+pub(crate) fn write_record(marker: &Marker, fragment: &[u8], out: &mut [u8]) -> usize
+    requires marker { IsMarker marker.now }
+    requires room { 512 * (1 + blocks_of (length fragment.now)) ≤ length out.old }
+    ensures end { result ≡ 512 * (1 + blocks_of (length fragment.now)) }
+    ensures written { out.new ≡ record_bytes marker.now fragment.now ++ drop result out.old }
+{
     write_marker_block(marker, &mut out[..BLOCK]);
     let end = BLOCK + BLOCK * fragment.len().div_ceil(CONTENT);
     write_fragment(fragment, &mut out[BLOCK..end]);
