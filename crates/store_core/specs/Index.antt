@@ -1,28 +1,57 @@
--- What a core's index says of each name.
-use Rattle.std.specs.Prelude.{◌≡◌, ℕ, zero, suc, ◌+◌, ◌*◌, ◌<◌, ◌≤◌, ◌==◌, List, map, Option, Some, None, option_map, Result, Ok, Err, All, if◌then◌else◌}
+-- What a core's index says of each name, and where it says that parts stand.
+use Rattle.std.specs.Prelude.{ℕ, zero, suc, ◌+◌, ◌==◌, List, map, Option, Some, None, option_map, is_some, Result, Ok, Err, if◌then◌else◌}
 use Rattle.std.specs.Ordering.{nat_cmp, ordering_then}
 use Rattle.std.specs.declared.cmp.Ordering.{Ordering}
-use Rattle.std.specs.Cmp.Lexicographic.{slice_cmp}
-use Rattle.std.specs.BTreeMap as tree
 use Rattle.std.specs.FinMap as finmap
-use Rattle.smore_base.specs.Name.{IsName}
-use Rattle.smore_base.specs.Room.{record_blocks}
+use Rattle.store_core.specs.declared.extent.Extent.{Extent}
+use Rattle.store_core.specs.declared.extent.Extent.TheVariants.{Sized, Broken}
 use Rattle.store_core.specs.declared.index.Note.{Note}
 use Rattle.store_core.specs.declared.index.Part.{Part}
 use Rattle.store_core.specs.declared.index.Index.{Index}
-use Rattle.store_core.specs.Extent.{Extent, Sized, Broken, Extents}
+use Rattle.store_core.specs.Extent.{ByName, Extents, mapped}
 
--- the order of an upload's parts
-abbrev pub part_cmp : ℕ × ℕ → ℕ × ℕ → Ordering
+-- from names to the notes of their objects
+abbrev pub Notes : Type 0
+Notes = ByName Note
+
+-- an upload, and the number of one of its parts
+abbrev pub PartKey : Type 0
+PartKey = ℕ × ℕ
+
+-- by upload and number
+abbrev pub part_cmp : PartKey → PartKey → Ordering
 part_cmp a b = ordering_then (nat_cmp a.0 b.0) (nat_cmp a.1 b.1)
 
--- the note of a name, where it stands for an object
-abbrev pub note_in : Index → List ℕ → Option Note
-note_in index name = tree.get_by (λ key. slice_cmp nat_cmp name key.items) index.names
+-- from these to where the parts stand
+abbrev pub Parts : Type 0
+Parts = finmap.FinMap part_cmp Part
 
--- where a part of an upload stands
-abbrev pub part_in : Index → ℕ → ℕ → Option Part
-part_in index upload part = tree.get part_cmp index.parts (upload, part)
+-- the notes of an index
+abbrev pub notes_in : Index → Notes
+notes_in index = finmap.from_entries (map (λ e. (e.0.items, e.1)) index.names.entries)
+
+-- the parts of an index
+abbrev pub parts_in : Index → Parts
+parts_in index = finmap.from_entries index.parts.entries
+
+-- the same notes, but for one name, which has this one, or none
+abbrev pub with_note : List ℕ → Option Note → Notes → Notes
+with_note name None notes = finmap.remove notes name
+with_note name (Some note) notes = finmap.insert notes name note
+
+-- the same parts, and this one, unless it is there
+abbrev pub with_part : PartKey → Part → Parts → Parts
+with_part key part parts = if is_some (finmap.get parts key) then parts else finmap.insert parts key part
+
+-- the note of a put of so many bytes
+abbrev pub note_of : ℕ → ℕ → Note
+note_of upload bytes = record { upload = upload; parts = if bytes == 0 then 0 else 1; length = bytes }
+
+-- the same parts, and the one part of a put, where it has bytes
+abbrev pub with_part_of : ℕ → Part → Parts → Parts
+with_part_of upload part parts = if part.bytes == 0 then parts else finmap.insert parts (upload, 0) part
+
+-- ---- what a note says
 
 -- a part's bytes and those of the parts behind it, or the first part that isn't there
 abbrev pub added : Option ℕ → ℕ → Result ℕ ℕ → Result ℕ ℕ
@@ -40,10 +69,14 @@ abbrev pub extent_by : Note → Result ℕ ℕ → Extent
 extent_by note (Ok bytes) = if bytes == note.length then Sized bytes else Broken note.upload note.parts
 extent_by note (Err missing) = Broken note.upload missing
 
+-- the bytes of each part of an upload that is there
+abbrev pub sizes_in : Parts → ℕ → ℕ → Option ℕ
+sizes_in parts upload part = option_map (λ (p : Part). p.bytes) (finmap.get parts (upload, part))
+
 -- what a note says, by which parts are there
-abbrev pub extent_in : Index → Note → Extent
-extent_in index note = extent_by note (bytes_from (λ part. option_map (λ p. p.bytes) (part_in index note.upload part)) 0 note.parts)
+abbrev pub extent_in : Parts → Note → Extent
+extent_in parts note = extent_by note (bytes_from (sizes_in parts note.upload) 0 note.parts)
 
 -- what an index says of each name
 abbrev pub extents_in : Index → Extents
-extents_in index = finmap.from_sorted (map (λ e. (e.0.items, extent_in index e.1)) index.names.entries)
+extents_in index = mapped (extent_in (parts_in index)) (notes_in index)

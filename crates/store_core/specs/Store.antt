@@ -20,7 +20,8 @@ use Rattle.object_machine.specs.declared.reply.Reply.TheVariants.{Done, Object, 
 use Rattle.object_machine.specs.declared.reply.Refusal.TheVariants.{Memory, NameBad, TooLarge, Full, TooFewFragments, Spent, Damaged}
 use Rattle.object_machine.specs.State.{State, Step, most_names}
 use Rattle.store_core.specs.declared.store.TheConstants.{DRIVE, LOST_FRAGMENTS, FULL_NEED, FULL_ROOM}
-use Rattle.store_core.specs.Extent.{Extents, Sized, Broken, extents_of}
+use Rattle.store_core.specs.declared.extent.Extent.TheVariants.{Sized, Broken}
+use Rattle.store_core.specs.Extent.{ByName, Extents, names_above, extents_of}
 
 -- ---- what answers depend on
 
@@ -116,12 +117,8 @@ GetCause c name (Refused Memory) = IsName name × ((bytes : ℕ) × IsReadable c
 GetCause c name (Object bytes) = IsName name × (finmap.get c.known name ≡ Some (Sized (length bytes))) × (length bytes ≤ MAX_OBJECT_BYTES) × (c.is_lost ≡ true → bytes ≡ [])
 GetCause c name reply = ⊥
 
--- the known names above this one, in byte order
-abbrev pub names_above : Extents → List ℕ → List (List ℕ)
-names_above known after = filter (λ name. is_lt (slice_cmp nat_cmp after name)) (finmap.keys known)
-
 -- the first of these, and whether others follow
-pub record Lists (known : Extents) (after : List ℕ) (limit : ℕ) (names : List (List ℕ)) (more : Bool) : Type 0 where
+pub record Lists {X : Type 0} (known : ByName X) (after : List ℕ) (limit : ℕ) (names : List (List ℕ)) (more : Bool) : Type 0 where
   pub first : names ≡ take (most_names limit) (names_above known after)
   pub others : IsTrue more ↔ (most_names limit < length (names_above known after))
 

@@ -1,5 +1,6 @@
 use crate::append::refused;
-use crate::index::{Extent, Note};
+use crate::extent::Extent;
+use crate::index::Note;
 use crate::store::Core;
 use crate::zone_calls::read_record;
 use object_machine::{MAX_OBJECT_BYTES, Refusal, Reply};
@@ -16,13 +17,13 @@ impl<B: Bay> Core<B> {
             return Reply::NotFound;
         };
         match self.index.extent(&note) {
-            Extent::Broken(upload, part) => refused(Refusal::Damaged { upload, part }),
-            Extent::Sized(bytes) if u64::from(bytes) > MAX_OBJECT_BYTES => {
+            Extent::Broken { upload, part } => refused(Refusal::Damaged { upload, part }),
+            Extent::Sized { bytes } if u64::from(bytes) > MAX_OBJECT_BYTES => {
                 refused(Refusal::TooLarge {
                     length: u64::from(bytes),
                 })
             }
-            Extent::Sized(_) => self.read(&note),
+            Extent::Sized { .. } => self.read(&note),
         }
     }
 
@@ -53,7 +54,12 @@ impl<B: Bay> Core<B> {
                 return Ok(());
             };
             let end = at + part.bytes as usize;
-            read_record(&mut self.bay, part.block, &mut self.buffer, &mut out[at..end])?;
+            read_record(
+                &mut self.bay,
+                part.block,
+                &mut self.buffer,
+                &mut out[at..end],
+            )?;
             at = end;
         }
         Ok(())

@@ -6,6 +6,7 @@ mod append;
 mod bay_label;
 mod blocks;
 mod delete;
+mod extent;
 mod format;
 mod get;
 mod index;
