@@ -1,6 +1,6 @@
 -- Calls on one device, one after another.
 use Rattle.std.proofs.Common.{◌≡◌, ◌≢◌, ℕ, ◌≤◌, Result, Ok, Err, refl, ◌∙◌, arith}
-use Rattle.std.specs.Result.{IsErr, IsErrAnd, OnErr}
+use Rattle.std.specs.Result.{IsErr, IsErrAnd, OnOk, OnErr}
 use Rattle.zone_bay.specs.Bay.{BayState, IsSound, Call, Written, Read, Flush, device_of, Makes}
 use Rattle.zone_bay.specs.Stretch.{GoesOn, OnlyReads}
 use Rattle.zone_bay.proofs.Calls.{call_goes, written_reads, read_reads, fails_reading, fails_reading_then, same_held}
@@ -8,7 +8,7 @@ use Rattle.zone_bay.proofs.Causes.{cause_later, cause_failed}
 use Rattle.zone_bay.proofs.Stretch.{goes_nowhere, goes_join, goes_weaker, reads_nothing, reads_join, reads_weaker, no_fault}
 use Rattle.store_core.specs.DeviceCalls.{CallsOn, ReadsOn}
 
--- ---- clauses of a failed answer
+-- ---- clauses of an answer
 
 pub on_err : {T E P : Type 0} (r : Result T E) → (IsErr r → P) → OnErr r P
 on_err (Ok x) p = tt
@@ -17,6 +17,10 @@ on_err (Err e) p = p refl
 pub on_err_map : {T E P P' : Type 0} (r : Result T E) → (P → P') → OnErr r P → OnErr r P'
 on_err_map (Ok x) f p = tt
 on_err_map (Err e) f p = f p
+
+pub on_ok_map : {T E P P' : Type 0} (r : Result T E) → (P → P') → OnOk r P → OnOk r P'
+on_ok_map (Ok x) f p = f p
+on_ok_map (Err e) f p = tt
 
 -- ---- calls
 

@@ -29,6 +29,9 @@ equal Less e = absurd cc
 equal Equal e = refl
 equal Greater e = absurd cc
 
+pub same_part : (a b : PartKey) → eq_by_cmp part_cmp a b ≡ true → a ≡ b
+same_part a b e = part_cmp_exact a b (equal (part_cmp a b) e)
+
 pub same_name : (a b : List ℕ) → eq_by_cmp (slice_cmp nat_cmp) a b ≡ true → a ≡ b
 same_name a b e = bytes_exact a b (equal (slice_cmp nat_cmp a b) e)
 

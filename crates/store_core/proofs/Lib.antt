@@ -6,3 +6,7 @@ pub mod FormatSteps
 pub mod IndexMaps
 pub mod LabelBlock
 pub mod Listing
+pub mod SaidLaws
+pub mod SoundLaws
+pub mod NewestAdded
+pub mod OpenRecords

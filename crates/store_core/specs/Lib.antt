@@ -6,6 +6,10 @@ pub mod Extent
 pub mod Records
 pub mod Store
 pub mod Index
+pub mod Sound
+pub mod OpenZone
+pub mod Said
 pub mod Zone
+pub mod ZoneRecords
 pub mod Opening
 pub mod Core

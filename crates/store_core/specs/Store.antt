@@ -20,6 +20,7 @@ use Rattle.object_machine.specs.declared.reply.Reply.TheVariants.{Done, Object, 
 use Rattle.object_machine.specs.declared.reply.Refusal.TheVariants.{Memory, NameBad, TooLarge, Full, TooFewFragments, Spent, Damaged}
 use Rattle.object_machine.specs.State.{State, Step, most_names}
 use Rattle.store_core.specs.declared.store.TheConstants.{DRIVE, LOST_FRAGMENTS, FULL_NEED, FULL_ROOM}
+use Rattle.store_core.specs.declared.zone.Load.{Load}
 use Rattle.store_core.specs.declared.extent.Extent.TheVariants.{Sized, Broken}
 use Rattle.store_core.specs.Extent.{ByName, Extents, names_above, extents_of}
 
@@ -40,16 +41,11 @@ pub record Case : Type 0 where
   pub at : Standing
   pub is_lost : Bool
 
--- blocks and records of a step
-pub record Load : Type 0 where
-  pub blocks : ℕ
-  pub records : ℕ
-
--- those of a note
+-- the load of a note
 abbrev pub note_load : Load
 note_load = record { blocks = 1; records = 1 }
 
--- those of a put of so many bytes: its note, and in front of it a part, where there are any
+-- that of a put of so many bytes: its note, and in front of it a part, where there are any
 abbrev pub put_load : ℕ → Load
 put_load bytes = if bytes == 0 then note_load else record { blocks = record_blocks bytes + 1; records = 2 }
 

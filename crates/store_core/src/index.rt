@@ -125,6 +125,26 @@ impl Index {
         let _ = self.names.remove(name);
     }
 
+    /// Gives the name this note, or none.
+    pub(crate) fn change_note(
+        &mut self,
+        alloc: Global,
+        name: &[u8],
+        note: Option<Note>,
+    ) -> Result<(), Memory>
+        ensures notes { OnOk result (notes_in self.new ≡ with_note name.now note (notes_in self.old)) }
+        ensures kept { OnErr result (notes_in self.new ≡ notes_in self.old) }
+        ensures parts { parts_in self.new ≡ parts_in self.old }
+    {
+        match note {
+            None => self.remove_note(name),
+            Some(note) => {
+                self.set_note(alloc, name, note)?;
+            }
+        }
+        Ok(())
+    }
+
     /// Gives the name, which has a note, this one instead, or none.
     pub(crate) fn restore_note(&mut self, name: &[u8], note: Option<Note>)
         requires { IsSome (finmap.get (notes_in self.old) name.now) }

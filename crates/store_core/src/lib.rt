@@ -14,9 +14,11 @@ mod list;
 mod opening;
 mod put;
 mod records;
+mod said;
 mod store;
 mod zone;
 mod zone_calls;
+mod zone_records;
 
 pub use format::FormatFailed;
 pub use opening::OpenRefusal;

@@ -3,9 +3,11 @@ ghost use Rattle.store_core.specs.DeviceCalls.{CallsOn};
 
 use crate::bay_label::read_bay_label;
 use crate::records::{RecordPlace, write_record};
+use crate::said::Said;
 use crate::store::{Core, DRIVE, FIRST_SET, FIRST_SET_ZONE, ZONE};
-use crate::zone::{OpenZone, ZoneRecords};
+use crate::zone::OpenZone;
 use crate::zone_calls::append_firm;
+use crate::zone_records::ZoneRecords;
 use marker_format::{Kind, Label};
 use smore_base::{BLOCK_BYTES, CONTENT_BYTES, Memory};
 use std::alloc::{AllocError, Global};
@@ -93,7 +95,7 @@ fn read_records<B: Bay>(
 ) -> Result<Option<ZoneRecords>, Fault> {
     let written = bay.written(DRIVE, ZONE)?;
     let mut reader = ZoneReader::new(DRIVE, ZONE, written, label.geometry, label.array);
-    let mut records = ZoneRecords::new(alloc, label.geometry.blocks);
+    let mut records = ZoneRecords::new(alloc, label.geometry.blocks, label.geometry.shard);
     while let Some(marker) = reader.next(bay)? {
         if !records.add(alloc, &marker)? {
             return Ok(None);
@@ -165,11 +167,12 @@ pub(crate) fn begin<B: Bay>(
     let ZoneRecords {
         zone,
         next_stamp,
-        index,
+        said,
         is_ready: _,
-        stamps: _,
         blocks: _,
+        shard: _,
     } = records;
+    let Said { index, stamps: _ } = said;
     let zone = if zone.records == 0 {
         match begin_set(&mut bay, label.array, &mut buffer) {
             Ok(zone) => zone,
