@@ -3,10 +3,14 @@ pub mod BlockLaws
 pub mod CallSteps
 pub mod Extents
 pub mod FormatSteps
+pub mod HeldItems
 pub mod IndexMaps
 pub mod LabelBlock
 pub mod Listing
 pub mod SaidLaws
 pub mod SoundLaws
+pub mod ZoneItems
 pub mod NewestAdded
+pub mod ObjectMaps
+pub mod OneZone
 pub mod OpenRecords
