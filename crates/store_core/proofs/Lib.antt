@@ -3,10 +3,15 @@ pub mod BlockLaws
 pub mod CallSteps
 pub mod Extents
 pub mod FormatSteps
+pub mod Held
 pub mod HeldItems
+pub mod HeldProps
 pub mod IndexMaps
 pub mod LabelBlock
 pub mod Listing
+pub mod Mapped
+pub mod OpenZones
+pub mod OwnMarkers
 pub mod SaidLaws
 pub mod SoundLaws
 pub mod ZoneItems

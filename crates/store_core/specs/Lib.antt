@@ -12,4 +12,5 @@ pub mod Said
 pub mod Zone
 pub mod ZoneRecords
 pub mod Opening
+pub mod Held
 pub mod Core
