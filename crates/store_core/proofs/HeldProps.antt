@@ -12,7 +12,7 @@ use Rattle.store_core.specs.declared.index.Index.{Index}
 use Rattle.store_core.specs.declared.zone.OpenZone.{OpenZone}
 use Rattle.store_core.specs.Said.{Says}
 use Rattle.store_core.specs.Opening.{IsOpenZone, IsAlone}
-use Rattle.store_core.specs.Held.{IsHeld}
+use Rattle.store_core.specs.Held.{IsHeld, IsFull}
 use mathlib.Core.Logic.{∥∥₁_elim}
 
 labels_set : (a b : Option Label) → IsProp (a ≡ b)
@@ -66,10 +66,6 @@ some_prop P (Some x) each = each x
 -- what is kept of a core's bay, as it is
 pub held_now : (array : Array) (zone : OpenZone) (stamp : ℕ) (index : Index) (shape : Shape) (contents : Option Contents) → ∥ IfSome contents (λ held. IsHeld array zone stamp index shape held) ∥₁ → IfSome contents (λ held. IsHeld array zone stamp index shape held)
 held_now array zone stamp index shape contents kept = ∥∥₁_elim kept (some_prop _ contents (λ held. IsHeld-prop array zone stamp index shape held)) (λ x. x)
-
--- where a drive isn't lost, its zone holds no more than is used
-abbrev pub IsFull : Bool → OpenZone → Contents → Type 0
-IsFull is_lost zone held = is_lost ≡ false → length (held 0 2) ≡ 512 * zone.blocks
 
 IsFull-prop : (is_lost : Bool) (zone : OpenZone) (held : Contents) → IsProp (IsFull is_lost zone held)
 IsFull-prop is_lost zone held x y = λ i works. numbers_set _ _ (x works) (y works) i

@@ -17,5 +17,6 @@ pub mod SoundLaws
 pub mod ZoneItems
 pub mod NewestAdded
 pub mod ObjectMaps
+pub mod OneSource
 pub mod OneZone
 pub mod OpenRecords

@@ -10,16 +10,8 @@ use Rattle.marker_format.specs.declared.marker.Marker.{Marker}
 use Rattle.marker_format.specs.Marker.{IsMarker}
 use Rattle.marker_format.specs.Zone.{Array, belongs}
 use Rattle.store_core.specs.declared.records.RecordPlace.{RecordPlace}
-use Rattle.store_core.specs.Records.{plain_marker, part_marker, put_marker, delete_marker}
+use Rattle.store_core.specs.Records.{IsPlace, plain_marker, part_marker, put_marker, delete_marker}
 use Rattle.store_core.proofs.SaidLaws.{and_true, one_source}
-
--- the place is one of a set of k 1 and p 1
-pub record IsPlace (place : RecordPlace) : Type 0 where
-  pub set_from : 1 ≤ place.set
-  pub set_to : place.set < 2 ^ 62
-  pub index : place.index < 2
-  pub position : place.position ≤ 65534
-  pub array : length place.array ≡ 16
 
 abbrev one_or_none : Bool → ℕ
 one_or_none b = cond b 0 1
@@ -92,7 +84,7 @@ ready_is place it = record {
   fragment_to = omega arith;
   set_from = it.set_from;
   set_to = it.set_to;
-  position_to = it.position;
+  position_to = omega (arith, it.position);
   stamp = refl;
   stamp_to = omega arith;
   upload = refl;
@@ -119,7 +111,7 @@ part_is place upload bytes it from to some few = record {
   fragment_to = few;
   set_from = it.set_from;
   set_to = it.set_to;
-  position_to = it.position;
+  position_to = omega (arith, it.position);
   stamp = refl;
   stamp_to = omega arith;
   upload = from;
@@ -146,7 +138,7 @@ put_is place stamp bytes name it from to few fits = record {
   fragment_to = omega arith;
   set_from = it.set_from;
   set_to = it.set_to;
-  position_to = it.position;
+  position_to = omega (arith, it.position);
   stamp = from;
   stamp_to = to;
   upload = from;
@@ -173,7 +165,7 @@ delete_is place stamp name it from to fits = record {
   fragment_to = omega arith;
   set_from = it.set_from;
   set_to = it.set_to;
-  position_to = it.position;
+  position_to = omega (arith, it.position);
   stamp = from;
   stamp_to = to;
   upload = refl;

@@ -25,6 +25,7 @@ use Rattle.store_core.specs.declared.store.Core.{Core}
 use Rattle.store_core.specs.declared.store.TheConstants.{DRIVE, ZONE}
 use Rattle.store_core.specs.declared.opening.OpenRefusal.{OpenRefusal}
 use Rattle.store_core.specs.declared.opening.OpenRefusal.TheVariants.{Memory, NoLabel}
+use Rattle.store_core.specs.declared.records.RecordPlace.{RecordPlace}
 use Rattle.store_core.specs.Label.{IsOfBay}
 use Rattle.store_core.specs.Extent.{Extents}
 use Rattle.store_core.specs.Index.{extents_in}
@@ -76,6 +77,9 @@ module _ {B : Type 0} {g : bay.Ghosts B} where
   -- where its next record goes
   abbrev pub standing_of : Core B g → Standing
   standing_of core = record { set = core.zone.set; blocks = core.zone.blocks; records = core.zone.records; stamp = core.next_stamp }
+
+  abbrev pub place_of : Core B g → RecordPlace
+  place_of core = record { set = core.zone.set; index = core.zone.index; position = core.zone.records; array = core.array }
 
   -- the store that a core is, over what the bay holds. What a refused put left behind the used blocks doesn't count.
   abbrev pub store_over : Core B g → BayState → Contents → Store

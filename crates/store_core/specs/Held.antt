@@ -1,5 +1,5 @@
 -- How a core stands to what its bay holds.
-use Rattle.std.specs.Prelude.{◌≡◌, ℕ, ◌*◌, ◌≤◌, List, length, take, Some}
+use Rattle.std.specs.Prelude.{◌≡◌, ℕ, ◌*◌, ◌≤◌, Bool, false, List, length, take, Some}
 use Rattle.smore_base.specs.declared.limits.TheConstants.{BLOCK_BYTES}
 use Rattle.zone_bay.specs.Contents.{Shape, Contents}
 use Rattle.marker_format.specs.Zone.{Array, whole_records}
@@ -27,3 +27,7 @@ pub record IsHeld (array : Array) (zone : OpenZone) (stamp : ℕ) (index : Index
   pub records : zone.records ≡ length (whole_records array (used zone held))
   pub later : next_stamp (whole_records array (used zone held)) ≤ stamp
   pub says : Says index (whole_records array (used zone held))
+
+-- While drive 0 isn't lost, its zone 2 holds these bytes and no more.
+abbrev pub IsFull : Bool → OpenZone → Contents → Type 0
+IsFull is_lost zone held = is_lost ≡ false → length (held DRIVE ZONE) ≡ BLOCK_BYTES * zone.blocks

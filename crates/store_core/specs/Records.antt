@@ -1,5 +1,7 @@
 -- The records that a core writes: their markers, and their blocks.
-use Rattle.std.specs.Prelude.{ℕ, ◌+◌, ◌==◌, List, ◌++◌, Some, None, if◌then◌else◌}
+use Rattle.std.specs.Prelude.{◌≡◌, ℕ, ◌+◌, ◌<◌, ◌≤◌, ◌==◌, List, [], ◌++◌, length, Some, None, if◌then◌else◌}
+use Rattle.smore_base.specs.declared.limits.TheConstants.{MAX_RECORDS}
+use Rattle.marker_format.specs.declared.marker.TheConstants.{COUNTER_END}
 use Rattle.marker_format.specs.declared.kind.Kind.{Kind}
 use Rattle.marker_format.specs.declared.kind.Kind.TheVariants.{Part, Put, Delete}
 use Rattle.marker_format.specs.declared.marker.Marker.{Marker}
@@ -47,3 +49,26 @@ delete_marker place stamp name = record (plain_marker place Delete) { stamp = st
 -- a record's blocks
 abbrev pub record_bytes : Marker → List ℕ → List ℕ
 record_bytes m fragment = marker_block m ++ fragment_blocks fragment
+
+-- the records of a put: its note, and in front of it a part, where it has bytes
+abbrev pub put_bytes : RecordPlace → ℕ → List ℕ → List ℕ → List ℕ
+put_bytes place stamp name object =
+    if length object == 0 then record_bytes (put_marker place stamp 0 name) []
+    else record_bytes (part_marker place stamp (length object)) object ++ record_bytes (put_marker (next_place place) stamp (length object) name) []
+
+-- the place is one of a set of k 1 and p 1
+pub record IsPlace (place : RecordPlace) : Type 0 where
+  pub set_from : 1 ≤ place.set
+  pub set_to : place.set < COUNTER_END
+  pub index : place.index < 2
+  pub position : place.position < MAX_RECORDS
+  pub array : length place.array ≡ 16
+
+-- so many records have places from there on
+pub record HasPlaces (place : RecordPlace) (count : ℕ) : Type 0 where
+  pub first : IsPlace place
+  pub last : place.position + count ≤ MAX_RECORDS
+
+-- a stamp that can be drawn
+abbrev pub IsStamp : ℕ → Type 0
+IsStamp stamp = (1 ≤ stamp) × (stamp < COUNTER_END)

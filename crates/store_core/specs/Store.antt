@@ -84,6 +84,20 @@ AppendCause c load (Refused (Full need room)) = (c.at.stamp < COUNTER_END) × Is
 AppendCause c load (Refused (TooFewFragments of_set missing)) = MayAppend c load × IsLostSet c of_set missing
 AppendCause c load reply = ⊥
 
+-- nothing is in the way of a put of so many bytes,
+pub record MayPut (c : Case) (name : List ℕ) (bytes : ℕ) : Type 0 where
+  pub named : IsName name
+  pub small : bytes ≤ c.geometry.shard
+  pub may : MayAppend c (put_load bytes)
+  pub works : c.is_lost ≡ false
+
+-- nor of a delete
+pub record MayDelete (c : Case) (name : List ℕ) : Type 0 where
+  pub named : IsName name
+  pub there : IsSome (finmap.get c.known name)
+  pub may : MayAppend c note_load
+  pub works : c.is_lost ≡ false
+
 -- to a put of so many bytes: of a shard at most
 abbrev pub PutCause : Case → List ℕ → ℕ → Reply → Type 0
 PutCause c name bytes (Refused (NameBad n)) = IsBadName name n

@@ -1,7 +1,13 @@
-ghost use Rattle.std.specs.Prelude.{◌≡◌, ◌≤◌, ◌<◌};
+ghost use Rattle.std.specs.Prelude.{◌≡◌, ◌≤◌, ◌<◌, ◌+◌, ◌*◌, length, IfSome};
+ghost use Rattle.smore_base.specs.declared.limits.TheConstants.{BLOCK_BYTES};
 ghost use Rattle.smore_base.specs.Geometry.{IsWithinLimits};
+ghost use Rattle.marker_format.specs.declared.marker.TheConstants.{COUNTER_END};
 ghost use Rattle.object_machine.specs.Coding.{IsMadeFor};
+ghost use Rattle.store_core.specs.Blocks.{blocks_of};
 ghost use Rattle.store_core.specs.Label.{IsOfBay};
+ghost use Rattle.store_core.specs.OpenZone.{IsOfSet};
+ghost use Rattle.store_core.specs.Sound.{IsSoundIndex};
+ghost use Rattle.store_core.specs.Held.{IsHeld, IsFull};
 
 use crate::index::Index;
 use crate::opening::{Fault, OpenRefusal, begin, find_opening};
@@ -49,6 +55,19 @@ pub struct Core<B: Bay> {
     pub(crate) is_lost: bool,
     ghost limits: { IsWithinLimits geometry },
     ghost of_bay: { IsOfBay (B.state bay).shape geometry },
+    ghost one_source: { geometry.k ≡ 1 },
+    ghost one_parity: { geometry.p ≡ 1 },
+    ghost id: { length array ≡ 16 },
+    ghost of_set: { IsOfSet zone },
+    ghost within: { zone.blocks ≤ geometry.blocks },
+    ghost few: { zone.records ≤ zone.blocks },
+    ghost stamp_from: { 1 ≤ next_stamp },
+    ghost stamp_to: { next_stamp ≤ COUNTER_END },
+    ghost room: { length buffer.items ≡ BLOCK_BYTES * (blocks_of geometry.shard + 2) },
+    ghost sound: { ∥ IsSoundIndex geometry.blocks geometry.shard next_stamp index ∥₁ },
+    ghost told: { ∥ IfSome (B.state bay).contents
+        (λ held. IsHeld (record { geometry = geometry; id = array }) zone next_stamp index (B.state bay).shape held) ∥₁ },
+    ghost full: { ∥ IfSome (B.state bay).contents (λ held. IsFull is_lost zone held) ∥₁ },
 }
 
 impl<B: Bay> Core<B> {
