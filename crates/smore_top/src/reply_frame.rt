@@ -176,11 +176,18 @@ mod tests {
         assert_frame(&rt, alloc, Reply::NotFound, b"\0\0\0\x01\x03")?;
         let bytes = Bytes::of(alloc, b"hello")?;
         assert_frame(&rt, alloc, Reply::Object { bytes }, b"\0\0\0\x06\x02hello")?;
-        let mut names = NameList::new(alloc);
-        for name in [b"a", b"b"] {
-            names.push(Name::new(name)?)?;
-        }
+        Ok(())
+    }
+
+    #[test]
+    fn names_are_a_frame(rt: HostRuntime) -> Result<(), Fail> {
+        let mut names = NameList::new(rt.alloc());
+        names.push(Name::new(b"a")?)?;
+        names.push(Name::new(b"b")?)?;
+        let mut frame = Vec::new(rt.alloc());
+        push_list(&mut frame, &names, true)?;
         let spelled = b"\0\0\0\x0a\x04\x01\0\x02\0\x01a\0\x01b";
-        assert_frame(&rt, alloc, Reply::Names { names, more: true }, spelled)
+        assert_eq!(rt; frame.as_slice(), spelled.as_slice());
+        Ok(())
     }
 }
