@@ -26,3 +26,6 @@ pub mod Fragments
 pub mod Settled
 pub mod SettledRecords
 pub mod Flash
+pub mod Tests
+pub mod NeedTests
+pub mod Cleaning

@@ -1,11 +1,15 @@
 pub mod Map
 pub mod Need
+pub mod NeedTests
 pub mod Record
 pub mod SetLaws
 pub mod Sets
+pub mod Shelf
 pub mod Drives
 pub mod Payload
 pub mod Reading
 pub mod Enough
+pub mod Cleaning
+pub mod NeedLaws
 pub mod Kept
 pub mod ReadingLaws

@@ -3,12 +3,14 @@
 #![tactic(auto)]
 
 mod laws;
+mod need_laws;
 mod reading_laws;
 
 pub use laws::{
     copies_change_nothing, dropped_set_is_gone, map_is_what_is_read, newest_note_is_greatest,
     note_is_last, opening_fixes_what_was_read, records_without_note, unneeded_sets_may_go,
 };
+pub use need_laws::{blocks_are_counted, shelf_has_all, tests_tell_need, victims_are_least};
 pub use reading_laws::{
     agreed_is_longest, agreed_list_stays, carriers_are_lowest, carriers_stay,
     fallen_sets_say_nothing, flash_may_leave, formatted_arrays_are_kept, markers_agree,
