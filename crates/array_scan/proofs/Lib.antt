@@ -1,0 +1,11 @@
+pub mod Calls
+pub mod Common
+pub mod Ranges
+pub mod HeadLaws
+pub mod JudgedSets
+pub mod Zones
+pub mod AgreedLists
+pub mod SeenSets
+pub mod OwnLabels
+pub mod ScannedSets
+pub mod FoundDrives
