@@ -8,4 +8,7 @@ pub mod AgreedLists
 pub mod SeenSets
 pub mod OwnLabels
 pub mod ScannedSets
+pub mod ToldObjects
+pub mod ValidRecords
 pub mod FoundDrives
+pub mod FoundNotes

@@ -3,6 +3,9 @@ pub mod Calls
 pub mod Drives
 pub mod Heads
 pub mod Judged
+pub mod Notes
+pub mod Objects
 pub mod Scan
 pub mod SetRead
+pub mod Valid
 pub mod Zones
