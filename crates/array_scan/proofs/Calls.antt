@@ -1,5 +1,5 @@
 -- Calls that only read, one after another, and what is told of what a bay holds.
-use Rattle.std.proofs.Common.{◌≡◌, ℕ, Option, Some, None, Result, Ok, Err, IfSome, refl, sym, ap, ◌∙◌, subst, arith}
+use Rattle.std.proofs.Common.{◌≡◌, ℕ, Option, Some, None, Result, Ok, Err, IfSome, IfOk, refl, sym, ap, ◌∙◌, subst, arith}
 use Rattle.std.specs.Result.{IsErr, IsErrAnd}
 use Rattle.std.proofs.lemmas.Result.{err_from_is_err_and}
 use Rattle.zone_bay.specs.Outside.{Rose, HasCause}
@@ -12,6 +12,11 @@ use Rattle.array_scan.specs.declared.refusal.ScanRefusal.TheVariants.{Memory, Lo
 use Rattle.array_scan.specs.Calls.{OnlyRead, lost_by}
 
 -- ---- what is told
+
+-- what follows of each answer
+pub ok_with : {T E : Type 0} (r : Result T E) (P Q : T → Type 0) → ((x : T) → P x → Q x) → IfOk r P → IfOk r Q
+ok_with (Ok x) P Q follows is = follows x is
+ok_with (Err e) P Q follows is = tt
 
 pub told_at : {B : Type 0} (o : Option B) (P : B → Type 0) (x : B) → o ≡ Some x → IfSome o P → P x
 told_at {B} o P x is h = subst (λ (o : Option B). IfSome o P) is h
@@ -72,3 +77,7 @@ failed_as T {U} old new e r is read =
     told : (e : ScanRefusal) → lost_by {T = T} (Err e) ≡ lost_by {T = U} (Err e)
     told Memory = refl
     told (Lost d) = refl
+
+-- the failure of a call is the answer
+pub failed_call : {T U : Type 0} (old new : BayState) (called : Result T ScanRefusal) (e : ScanRefusal) (r : Result U ScanRefusal) → called ≡ Err e → IsErrAnd r (λ y. y ≡ e) → OnlyRead old new (lost_by called) → OnlyRead old new (lost_by r)
+failed_call {T} old new called e r was is read = failed_as T old new e r is (subst (λ (c : Result T ScanRefusal). OnlyRead old new (lost_by c)) was read)

@@ -8,4 +8,15 @@ pub mod AgreedLists
 pub mod SeenSets
 pub mod OwnLabels
 pub mod ScannedSets
+pub mod ToldObjects
+pub mod ValidRecords
 pub mod FoundDrives
+pub mod FoundNotes
+pub mod ReadMap
+pub mod ReadPayloads
+pub mod DecodedPayloads
+pub mod ReadObjects
+pub mod NamedObjects
+pub mod NeededRecords
+pub mod MixedLabels
+pub mod EnoughBeside

@@ -1,8 +1,14 @@
 pub mod Agree
 pub mod Calls
 pub mod Drives
+pub mod Enough
 pub mod Heads
 pub mod Judged
+pub mod Needed
+pub mod Notes
+pub mod Objects
+pub mod Payloads
 pub mod Scan
 pub mod SetRead
+pub mod Valid
 pub mod Zones

@@ -4,7 +4,7 @@ ghost use Rattle.std.specs.List.{AllByRecursion};
 ghost use Rattle.smore_base.specs.Geometry.{IsWithinLimits};
 ghost use Rattle.array_model.specs.Drives.{array_of};
 ghost use Rattle.array_scan.specs.Calls.{OnlyRead, lost_by};
-ghost use Rattle.array_scan.specs.Scan.{AreSetsOf, IsScanOf};
+ghost use Rattle.array_scan.specs.Scan.{AreSetsOf, IsScanOf, AreInBay, IsInBay};
 
 use crate::answers::Scan;
 use crate::drives::read_drives;
@@ -21,6 +21,7 @@ use zone_bay::Bay;
 pub fn scan<B: Bay>(alloc: Global, bay: &mut B, away: &[u8]) -> Result<Scan, ScanRefusal>
     ensures scan { IfSome (B.state bay.old).contents
         (λ held. IfOk result (IsScanOf (B.state bay.old).shape held away.now)) }
+    ensures in_bay { IfOk result (IsInBay (B.state bay.old).shape) }
     ensures reads { OnlyRead (B.state bay.old) (B.state bay.new) (lost_by result) }
 {
     let drives = read_drives(alloc, bay, away)?;
@@ -39,6 +40,7 @@ fn scan_sets<B: Bay>(
     requires within { AllByRecursion (λ d. d < (B.state bay.old).shape.devices) drives.now }
     ensures sets { IfSome (B.state bay.old).contents (λ held. IfOk result
         (AreSetsOf (array_of labels.now) (B.state bay.old).shape held drives.now)) }
+    ensures in_bay { IfOk result (AreInBay (array_of labels.now) (B.state bay.old).shape) }
     ensures reads { OnlyRead (B.state bay.old) (B.state bay.new) (lost_by result) }
 {
     let Some(label) = labels.first() else {

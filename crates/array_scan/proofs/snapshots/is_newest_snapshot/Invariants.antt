@@ -1,0 +1,10 @@
+use Rattle.std.proofs.Common.{◌≡◌, drop}
+use Rattle.std.specs.List.{list_all}
+use Rattle.array_model.specs.NeedTests.{is_no_newer}
+use Rattle.array_scan.specs.Judged.{Payloads}
+use Rattle.array_scan.specs.Valid.{items_with}
+use Rattle.array_scan.specs.Objects.{HasLengths}
+use Rattle.array_scan.proofs.snapshots.is_newest_snapshot.Given as goal
+
+abbrev pub invariant-loop-valid : goal.invariant-loop-valid
+invariant-loop-valid l = (payload : Payloads) → HasLengths payload → let items = items_with payload l.records in list_all (is_no_newer items l.stamp) items ≡ list_all (is_no_newer items l.stamp) (items_with payload (drop l.valid-index l.records))
