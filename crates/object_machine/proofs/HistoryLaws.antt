@@ -1,14 +1,15 @@
 -- What follows from legal histories, of any moves. A clause can't range over moves, which are predicates: those of
 -- `laws` range over machines, and a crate above with moves of its own takes these.
 use Rattle.std.proofs.Common.{◌≡◌, zero, suc, List, [], ◌∷◌, Option, Some, None, refl, ap, sym, ◌∙◌, subst}
+use Rattle.std.specs.FinMap as map
 use Rattle.smore_base.specs.Told.{Told}
 use Rattle.object_machine.specs.declared.op.Op.{Op}
 use Rattle.object_machine.specs.declared.reply.Reply.{Reply}
 use Rattle.object_machine.specs.declared.machine.Entry.{Entry}
 use Rattle.object_machine.specs.State.{State, Step}
 use Rattle.object_machine.specs.History.{IsLegalHistory}
-use Rattle.object_machine.specs.Laws.{HistoriesGoOn, HistoriesJoin, HistoriesSplit, HistoriesAreSteps, HistoriesFollow, HistoryDecides}
-use Rattle.object_machine.proofs.StateLaws.{answer_decides}
+use Rattle.object_machine.specs.Laws.{HistoriesGoOn, HistoriesJoin, HistoriesSplit, HistoriesAreSteps, HistoriesFollow, HistoryDecides, DeletedStaysAbsent}
+use Rattle.object_machine.proofs.StateLaws.{answer_decides, stays_absent}
 
 -- One move more, from where a legal history leads, makes a legal history with one entry more.
 pub legal_more : {S : Type 0} (moves : S → Op → Reply → S → Type 0) → HistoriesGoOn moves
@@ -60,3 +61,8 @@ pub history_decides : HistoryDecides
 history_decides from from' to to' [] equal one other = record { objects = ap (λ (s : State). s.objects) other ∙ equal.objects ∙ sym (ap (λ (s : State). s.objects) one) }
 history_decides from from' to to' (entry ∷ entries) equal one other =
     history_decides one.0 other.0 to to' entries (answer_decides from from' one.0 other.0 entry.op entry.reply equal one.1 other.1) one.2 other.2
+
+pub deleted_stays_absent : DeletedStaysAbsent
+deleted_stays_absent from to [] name absent none legal = ap (λ (s : State). map.get s.objects name) legal ∙ absent
+deleted_stays_absent from to (entry ∷ entries) name absent none legal =
+    deleted_stays_absent legal.0 to entries name (stays_absent from legal.0 entry.op entry.reply name absent none.0 legal.1) none.1 legal.2

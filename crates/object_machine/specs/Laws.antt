@@ -1,17 +1,18 @@
 -- What follows from steps of the store machine, and from legal histories.
-use Rattle.std.specs.Prelude.{◌≡◌, ◌≢◌, ℕ, List, [], ◌∷◌, ◌++◌, take, drop, Option, Some, None}
+use Rattle.std.specs.Prelude.{◌≡◌, ◌≢◌, ◌⊎◌, ℕ, List, [], ◌∷◌, ◌++◌, take, drop, Option, Some, None, ⊤}
 use Rattle.std.specs.FinMap as map
+use Rattle.rs_code.specs.Blob.{CutBytes}
 use Rattle.smore_base.specs.Name.{IsName}
 use Rattle.smore_base.specs.Objects.{Whole, Broken}
 use Rattle.smore_base.specs.Told.{Told}
 use Rattle.object_machine.specs.declared.op.Op.{Op}
-use Rattle.object_machine.specs.declared.op.Op.TheVariants.{Put, Get}
+use Rattle.object_machine.specs.declared.op.Op.TheVariants.{Put, Get, Delete, List as ListNames}
 use Rattle.object_machine.specs.declared.reply.Reply.{Reply}
 use Rattle.object_machine.specs.declared.reply.Reply.TheVariants.{Done, Object, NotFound, Refused}
 use Rattle.object_machine.specs.declared.reply.Refusal.{Refusal}
-use Rattle.object_machine.specs.declared.reply.Refusal.TheVariants.{Full, Damaged}
+use Rattle.object_machine.specs.declared.reply.Refusal.TheVariants.{Memory, NameBad, Full, Damaged}
 use Rattle.object_machine.specs.declared.machine.Entry.{Entry}
-use Rattle.object_machine.specs.State.{State, EqualButLost, OnlyLoses, Step}
+use Rattle.object_machine.specs.State.{State, HasObject, EqualButLost, OnlyLoses, Step}
 use Rattle.object_machine.specs.History.{IsLegalHistory}
 
 -- A refused call changes nothing.
@@ -24,11 +25,19 @@ GetIsNeverFull = (old new : State) (name : List ℕ) (need room : ℕ) → Step 
 
 -- and no put for an object that is broken.
 abbrev pub PutIsNeverDamaged : Type 0
-PutIsNeverDamaged = (old new : State) (name object : List ℕ) (upload part : ℕ) → Step old (Put name object) (Refused (Damaged upload part)) new → ⊥
+PutIsNeverDamaged = (old new : State) (name : List ℕ) (object : CutBytes) (upload part : ℕ) → Step old (Put name object) (Refused (Damaged upload part)) new → ⊥
+
+-- No list is refused but for its name's length, or for want of memory.
+abbrev pub ListIsRefusedForItsName : Type 0
+ListIsRefusedForItsName = (old new : State) (after : List ℕ) (limit : ℕ) (why : Refusal) → Step old (ListNames after limit) (Refused why) new → (why ≡ Memory) ⊎ ((length : ℕ) × (why ≡ NameBad length))
 
 -- A get changes nothing, whatever it answers.
 abbrev pub GetChangesNothing : Type 0
 GetChangesNothing = (old new : State) (name : List ℕ) (reply : Reply) → Step old (Get name) reply new → OnlyLoses old new
+
+-- Nor does a list.
+abbrev pub ListChangesNothing : Type 0
+ListChangesNothing = (old new : State) (after : List ℕ) (limit : ℕ) (reply : Reply) → Step old (ListNames after limit) reply new → OnlyLoses old new
 
 -- The bytes that a get answers are those of the object that the name has.
 abbrev pub ObjectIsHeld : Type 0
@@ -48,11 +57,41 @@ AbsentIsNotFound = (old new : State) (name : List ℕ) (reply : Reply) → IsNam
 
 -- After a put that is done the name has the object.
 abbrev pub PutIsKept : Type 0
-PutIsKept = (old new : State) (name object : List ℕ) → Step old (Put name object) Done new → map.get new.objects name ≡ Some (Whole object)
+PutIsKept = (old new : State) (name : List ℕ) (object : CutBytes) → Step old (Put name object) Done new → map.get new.objects name ≡ Some (Whole object.bytes)
 
 -- And each other name has what it had.
 abbrev pub PutKeepsOthers : Type 0
-PutKeepsOthers = (old new : State) (name object other : List ℕ) → Step old (Put name object) Done new → other ≢ name → map.get new.objects other ≡ map.get old.objects other
+PutKeepsOthers = (old new : State) (name other : List ℕ) (object : CutBytes) → Step old (Put name object) Done new → other ≢ name → map.get new.objects other ≡ map.get old.objects other
+
+-- A delete that is done found an object,
+abbrev pub DeletedWasThere : Type 0
+DeletedWasThere = (old new : State) (name : List ℕ) → Step old (Delete name) Done new → HasObject old.objects name
+
+-- of which the name has none from then on.
+abbrev pub DeletedIsGone : Type 0
+DeletedIsGone = (old new : State) (name : List ℕ) → Step old (Delete name) Done new → map.get new.objects name ≡ None
+
+-- Each other name has what it had.
+abbrev pub DeleteKeepsOthers : Type 0
+DeleteKeepsOthers = (old new : State) (name other : List ℕ) → Step old (Delete name) Done new → other ≢ name → map.get new.objects other ≡ map.get old.objects other
+
+-- A name without an object is not found by a delete.
+abbrev pub AbsentIsNotDeleted : Type 0
+AbsentIsNotDeleted = (old new : State) (name : List ℕ) (reply : Reply) → IsName name → map.get old.objects name ≡ None → Step old (Delete name) reply new → reply ≡ NotFound
+
+-- a put of the name that is done
+abbrev pub IsDonePut : List ℕ → Op → Reply → Type 0
+IsDonePut name (Put other object) Done = other ≡ name
+IsDonePut name op reply = ⊥
+
+-- no entry is such a put
+abbrev pub HasNoDonePut : List ℕ → List Entry → Type 0
+HasNoDonePut name [] = ⊤
+HasNoDonePut name (entry ∷ entries) = (IsDonePut name entry.op entry.reply → ⊥) × HasNoDonePut name entries
+
+-- A name that has no object has none after a legal history, unless a put of it was done there.
+abbrev pub DeletedStaysAbsent : Type 0
+DeletedStaysAbsent = (from to : State) (entries : List Entry) (name : List ℕ) → map.get from.objects name ≡ None → HasNoDonePut name entries → IsLegalHistory Step from entries to → map.get to.objects name ≡ None
 
 -- The call and its answer decide all but which devices are lost.
 abbrev pub AnswerDecides : Type 0

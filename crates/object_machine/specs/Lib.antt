@@ -1,3 +1,4 @@
+pub mod Coding
 pub mod State
 pub mod History
 pub mod Laws

@@ -1,4 +1,4 @@
-use smore_base::Bytes;
+use smore_base::{Bytes, NameList};
 
 /// The answer to a call.
 #[derive(Debug, Drop)]
@@ -6,6 +6,8 @@ pub enum Reply {
     Done,
     Object { bytes: Bytes },
     NotFound,
+    /// Names in byte order, and whether more of those that were asked for follow them.
+    Names { names: NameList, more: bool },
     Refused { why: Refusal },
 }
 
@@ -22,6 +24,8 @@ pub enum Refusal {
     Full { need: u32, room: u32 },
     /// So many fragments of the set are missing that its records can't be read or written.
     TooFewFragments { set: u64, missing: u8 },
+    /// No number is left to stamp the call's note with.
+    Spent,
     /// The object is broken: this part of the upload is the first that isn't there, or of its parts, as many as this
     /// number, the lengths don't add up.
     Damaged { upload: u64, part: u32 },

@@ -1,8 +1,11 @@
 -- One take more, of a loop that fills a buffer.
-use Rattle.std.proofs.Common.{◌≡◌, ℕ, ◌+◌, ◌≤◌, List, ◌++◌, length, take, arith, sym, ap, ◌∙◌, append_assoc, length-take}
-use Rattle.std.proofs.lemmas.List.{take-append-le}
+use Rattle.std.proofs.Common.{◌≡◌, ℕ, ◌+◌, ◌≤◌, List, ◌++◌, length, take, arith, sym, ap, ◌∙◌, append_assoc, length-append, length-take}
+use Rattle.std.proofs.lemmas.List.{take-append-le, length-drop}
 use Rattle.std.proofs.Math.Seq.{take-append-add}
 use borrow.Rule.Slice.PartMut.{put_mid, post_of}
+
+pub length-put_mid : (a k : ℕ) (out part : List ℕ) → a + k ≤ length out → length part ≡ k → length (put_mid a k out part) ≡ length out
+length-put_mid a k out part within size = simp (length-append, length-take, length-drop) (omega arith)
 
 filled_further : (out part : List ℕ) (filled k count : ℕ) → filled ≤ length out → count ≤ length part → take (filled + count) (put_mid filled k out part) ≡ take filled out ++ take count part
 filled_further out part filled k count within some =

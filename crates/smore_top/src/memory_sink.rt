@@ -3,8 +3,8 @@ ghost use Rattle.zone_bay.specs.Outside.{counted, HasCause};
 ghost use Rattle.smore_top.specs.Streams.{Puts};
 ghost use Rattle.smore_top.specs.MemoryStreams.{no_calls};
 
-use crate::calls::Calls;
 use crate::sink::Sink;
+use crate::stream_calls::StreamCalls;
 use smore_base::Memory;
 use std::alloc::Global;
 use std::marker::Model;
@@ -15,7 +15,7 @@ use zone_bay::Failed;
 pub struct MemorySink {
     held: Vec<u8>,
     most: usize,
-    calls: Calls,
+    calls: StreamCalls,
 }
 
 impl Model for MemorySink {
@@ -38,7 +38,7 @@ impl MemorySink {
         MemorySink {
             held: Vec::new(alloc),
             most,
-            calls: Calls::new(alloc),
+            calls: StreamCalls::new(alloc),
         }
     }
 
@@ -96,7 +96,7 @@ mod tests {
     #[test]
     fn puts_some_at_once(rt: HostRuntime) -> Result<(), Fail> {
         let mut sink = MemorySink::new(rt.alloc(), 3);
-        sink.fail_at(&[2]).ok().ok_or("memory")?;
+        sink.fail_at(&[2])?;
         let puts: [(&[u8], Option<usize>, &[u8]); 4] = [
             (b"abcd", Some(3), b"abc"),
             (b"d", None, b"abc"),

@@ -3,8 +3,8 @@ ghost use Rattle.zone_bay.specs.Outside.{counted, HasCause};
 ghost use Rattle.smore_top.specs.Streams.{Takes};
 ghost use Rattle.smore_top.specs.MemoryStreams.{no_calls, joined};
 
-use crate::calls::Calls;
 use crate::source::Source;
+use crate::stream_calls::StreamCalls;
 use smore_base::Memory;
 use std::alloc::Global;
 use std::marker::Model;
@@ -16,7 +16,7 @@ pub struct MemorySource {
     pieces: Vec<Vec<u8>>,
     front: usize,
     at: usize,
-    calls: Calls,
+    calls: StreamCalls,
 }
 
 impl Model for MemorySource {
@@ -49,7 +49,7 @@ impl MemorySource {
             pieces,
             front: 0,
             at: 0,
-            calls: Calls::new(alloc),
+            calls: StreamCalls::new(alloc),
         }
     }
 
@@ -109,7 +109,7 @@ mod tests {
         pieces.push(Vec::from_slice(rt.alloc(), b"abc")?)?;
         pieces.push(Vec::from_slice(rt.alloc(), b"de")?)?;
         let mut source = MemorySource::new(rt.alloc(), pieces);
-        source.fail_at(&[2]).ok().ok_or("memory")?;
+        source.fail_at(&[2])?;
         let takes: [(Option<usize>, &[u8]); 6] = [
             (Some(2), b"ab"),
             (None, b""),

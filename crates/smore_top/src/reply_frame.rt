@@ -1,23 +1,21 @@
 //! Replies as frames: `docs/FORMATS.md`, "Frames".
-ghost use Rattle.std.specs.Prelude.{◌≡◌, ℕ, ◌+◌, ◌<◌, ◌≤◌, ◌^◌, [], ◌∷◌, ◌++◌, length, OnOk, OnErr};
-ghost use Rattle.smore_base.specs.Told.{Told};
-ghost use Rattle.zone_bay.specs.Outside.{HasCause};
-ghost use Rattle.smore_top.specs.Frames.{frame_head, reply_body, reply_frame, refusal_fields};
-ghost use Rattle.smore_top.specs.Writing.{PutsAll, PutsPart};
+ghost use Rattle.std.specs.Prelude.{◌≡◌, ◌+◌, ◌*◌, ◌<◌, ◌≤◌, ◌^◌, ◌++◌, length, OnOk};
+ghost use Rattle.smore_top.specs.Frames.{frame_head, name_fields, reply_frame, refusal_fields, HasFrame};
 
-use crate::Sink;
+use crate::frame_numbers::{
+    DAMAGED_NUMBER, DONE_TAG, FULL_NUMBER, MEMORY_NUMBER, NAME_BAD_NUMBER, NAME_LENGTH_BYTES,
+    NAMES_TAG, NOT_FOUND_TAG, OBJECT_TAG, REFUSED_TAG, SPENT_NUMBER, TOO_FEW_FRAGMENTS_NUMBER,
+    TOO_LARGE_NUMBER,
+};
 use object_machine::{Refusal, Reply};
-use smore_base::Memory;
+use smore_base::{MAX_NAME_BYTES, Memory, Name, NameList};
 use std::alloc::AllocError;
-use zone_bay::Failed;
 
-const REFUSED: u8 = 0;
+/// Bytes of a refusal behind its tag: its number and its two values.
+const REFUSAL_BYTES: u32 = 17;
 
-const DONE: u8 = 1;
-
-const OBJECT: u8 = 2;
-
-const NOT_FOUND: u8 = 3;
+/// Bytes of a list of names behind its tag, without the names.
+const LIST_BYTES: u32 = 3;
 
 // The length of a body with so many bytes behind its tag, and the tag.
 fn push_head(out: &mut Vec<u8>, tag: u8, fields: u32) -> Result<(), AllocError>
@@ -34,12 +32,15 @@ fn fields_of(why: &Refusal) -> (u8, u64, u64)
     ensures { result ≡ refusal_fields why.now }
 {
     match *why {
-        Refusal::Memory => (1, 0, 0),
-        Refusal::NameBad { length } => (20, length, 0),
-        Refusal::TooLarge { length } => (21, length, 0),
-        Refusal::Full { need, room } => (22, u64::from(need), u64::from(room)),
-        Refusal::TooFewFragments { set, missing } => (24, set, u64::from(missing)),
-        Refusal::Damaged { upload, part } => (32, upload, u64::from(part)),
+        Refusal::Memory => (MEMORY_NUMBER, 0, 0),
+        Refusal::NameBad { length } => (NAME_BAD_NUMBER, length, 0),
+        Refusal::TooLarge { length } => (TOO_LARGE_NUMBER, length, 0),
+        Refusal::Full { need, room } => (FULL_NUMBER, u64::from(need), u64::from(room)),
+        Refusal::TooFewFragments { set, missing } => {
+            (TOO_FEW_FRAGMENTS_NUMBER, set, u64::from(missing))
+        }
+        Refusal::Spent => (SPENT_NUMBER, 0, 0),
+        Refusal::Damaged { upload, part } => (DAMAGED_NUMBER, upload, u64::from(part)),
     }
 }
 
@@ -47,40 +48,146 @@ fn push_refusal(out: &mut Vec<u8>, why: &Refusal) -> Result<(), AllocError>
     ensures { OnOk result (out.new.items ≡ out.old.items ++ reply_frame (Reply.Refused why.now)) }
 {
     let (number, first, second) = fields_of(why);
-    push_head(out, REFUSED, 17)?;
+    push_head(out, REFUSED_TAG, REFUSAL_BYTES)?;
     out.push(number)?;
     out.extend_from_slice(&first.to_be_bytes())?;
     out.extend_from_slice(&second.to_be_bytes())?;
     Ok(())
 }
 
+// How many bytes the names take, with the two of each one's length.
+fn bytes_of_names(names: &[Name]) -> u32
+    requires { length names.now < 2 ^ 16 }
+    ensures sum { result ≡ length (name_fields names.now) }
+    ensures few { result ≤ (NAME_LENGTH_BYTES + MAX_NAME_BYTES) * length names.now }
+{
+    let mut bytes = 0;
+    for name in names {
+        bytes += (NAME_LENGTH_BYTES + name.as_slice().len()) as u32;
+    }
+    bytes
+}
+
+fn push_names(out: &mut Vec<u8>, names: &[Name]) -> Result<(), AllocError>
+    ensures { OnOk result (out.new.items ≡ out.old.items ++ name_fields names.now) }
+{
+    for name in names {
+        let bytes = name.as_slice();
+        out.extend_from_slice(&(bytes.len() as u16).to_be_bytes())?;
+        out.extend_from_slice(bytes)?;
+    }
+    Ok(())
+}
+
+fn push_list(out: &mut Vec<u8>, names: &NameList, more: bool) -> Result<(), AllocError>
+    requires { length names.now < 2 ^ 16 }
+    ensures { OnOk result (out.new.items ≡ out.old.items ++ reply_frame (Reply.Names names.now more)) }
+{
+    let names = names.names();
+    push_head(out, NAMES_TAG, LIST_BYTES + bytes_of_names(names))?;
+    out.push(u8::from(more))?;
+    out.extend_from_slice(&(names.len() as u16).to_be_bytes())?;
+    push_names(out, names)
+}
+
 /// Appends the reply's frame. Where no memory is found, a prefix of the frame may stand there.
 pub fn write_reply(reply: &Reply, out: &mut Vec<u8>) -> Result<(), Memory>
-    requires { length (reply_body reply.now) < 2 ^ 32 }
+    requires { HasFrame reply.now }
     ensures { OnOk result (out.new.items ≡ out.old.items ++ reply_frame reply.now) }
 {
     match reply {
-        Reply::Done => push_head(out, DONE, 0)?,
-        Reply::NotFound => push_head(out, NOT_FOUND, 0)?,
+        Reply::Done => push_head(out, DONE_TAG, 0)?,
+        Reply::NotFound => push_head(out, NOT_FOUND_TAG, 0)?,
         Reply::Object { bytes } => {
-            push_head(out, OBJECT, bytes.len() as u32)?;
+            push_head(out, OBJECT_TAG, bytes.len() as u32)?;
             out.extend_from_slice(bytes.as_slice())?;
         }
+        Reply::Names { names, more } => push_list(out, names, *more)?,
         Reply::Refused { why } => push_refusal(out, why)?,
     }
     Ok(())
 }
 
-/// Puts all the bytes. Where the sink fails, it has got a prefix of them.
-pub(crate) fn put_all<K: Sink>(sink: &mut K, bytes: &[u8]) -> Result<(), Failed>
-    ensures ok { OnOk result (Told (K.held sink.old) (K.held sink.new) (PutsAll bytes.now)) }
-    ensures err { OnErr result (Told (K.held sink.old) (K.held sink.new) (PutsPart bytes.now)) }
-    ensures cause { HasCause result (K.faults sink.old) (K.faults sink.new) }
-{
-    let mut rest = bytes;
-    while !rest.is_empty() {
-        let count = sink.put(rest)?;
-        rest = &rest[count..];
+#[cfg(test)]
+mod tests {
+    use super::*;
+    use smore_base::Bytes;
+    use std::alloc::Global;
+    use std::process::Abort;
+    use std::test::Fail;
+
+    fn assert_frame(
+        rt: &impl Abort,
+        alloc: Global,
+        reply: Reply,
+        spelled: &[u8],
+    ) -> Result<(), Fail>
+        requires { HasFrame reply }
+    {
+        let mut frame = Vec::new(alloc);
+        write_reply(&reply, &mut frame)?;
+        assert_eq!(rt; frame.as_slice(), spelled);
+        Ok(())
     }
-    Ok(())
+
+    const REFUSALS: [(Refusal, &[u8]); 7] = [
+        (
+            Refusal::Memory,
+            b"\0\0\0\x12\0\x01\0\0\0\0\0\0\0\0\0\0\0\0\0\0\0\0",
+        ),
+        (
+            Refusal::NameBad { length: 256 },
+            b"\0\0\0\x12\0\x14\0\0\0\0\0\0\x01\0\0\0\0\0\0\0\0\0",
+        ),
+        (
+            Refusal::TooLarge { length: 1023 },
+            b"\0\0\0\x12\0\x15\0\0\0\0\0\0\x03\xff\0\0\0\0\0\0\0\0",
+        ),
+        (
+            Refusal::Full { need: 1, room: 3 },
+            b"\0\0\0\x12\0\x16\0\0\0\0\0\0\0\x01\0\0\0\0\0\0\0\x03",
+        ),
+        (
+            Refusal::TooFewFragments { set: 1, missing: 2 },
+            b"\0\0\0\x12\0\x18\0\0\0\0\0\0\0\x01\0\0\0\0\0\0\0\x02",
+        ),
+        (
+            Refusal::Spent,
+            b"\0\0\0\x12\0\x1d\0\0\0\0\0\0\0\0\0\0\0\0\0\0\0\0",
+        ),
+        (
+            Refusal::Damaged { upload: 5, part: 1 },
+            b"\0\0\0\x12\0\x20\0\0\0\0\0\0\0\x05\0\0\0\0\0\0\0\x01",
+        ),
+    ];
+
+    #[test]
+    fn refusals_are_frames(rt: HostRuntime) -> Result<(), Fail> {
+        for (why, spelled) in REFUSALS {
+            assert_frame(&rt, rt.alloc(), Reply::Refused { why }, spelled)?;
+        }
+        Ok(())
+    }
+
+    #[test]
+    fn replies_are_frames(rt: HostRuntime) -> Result<(), Fail> {
+        let alloc = rt.alloc();
+        assert_frame(&rt, alloc, Reply::Done, b"\0\0\0\x01\x01")?;
+        assert_frame(&rt, alloc, Reply::NotFound, b"\0\0\0\x01\x03")?;
+        let bytes = Bytes::of(alloc, b"hello")?;
+        assert_frame(&rt, alloc, Reply::Object { bytes }, b"\0\0\0\x06\x02hello")?;
+        Ok(())
+    }
+
+    #[test]
+    fn names_are_a_frame(rt: HostRuntime) -> Result<(), Fail> {
+        let mut names = NameList::new(rt.alloc());
+        names.push(Name::new(b"a")?)?;
+        names.push(Name::new(b"b")?)?;
+        let mut frame = Vec::new(rt.alloc());
+        push_list(&mut frame, &names, true)?;
+        let spelled = b"\0\0\0\x0a\x04\x01\0\x02\0\x01a\0\x01b";
+        assert_eq!(rt; frame.as_slice(), spelled.as_slice());
+        Ok(())
+    }
 }

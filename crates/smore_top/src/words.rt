@@ -105,7 +105,7 @@ mod tests {
         for (line, is) in lines {
             let mut words = Words::new(rt.alloc());
             for word in line {
-                words.append_word(word).ok().ok_or("memory")?;
+                words.append_word(word)?;
             }
             assert_eq!(rt; words.len(), line.len());
             assert_eq!(rt; words.is_empty(), line.is_empty());

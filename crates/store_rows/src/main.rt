@@ -7,6 +7,7 @@ mod fault;
 mod frame;
 mod objects;
 mod parser;
+mod plain;
 mod play;
 mod reply;
 mod request;

@@ -4,6 +4,7 @@ use crate::array::{BLOCK, append_block, image_of, zone_of};
 use crate::fault::Fault;
 use crate::frame::split_first;
 use crate::objects::{Objects, told as told_objects};
+use crate::plain::scanned;
 use crate::reply::{is_done, is_refusal, told};
 use crate::request::Request;
 use crate::row::{Action, Ended, MapIs, Script, Segment, Wanted, ZoneIs};
@@ -82,15 +83,27 @@ impl<'a> Player<'a> {
         Ok(())
     }
 
-    /// Plays the segment's lines in order.
+    /// Plays the segment's lines in order. A call that fails or stops is one of those since the bay last became an image.
     pub(crate) fn play(&mut self, segment: &Segment) -> Result<(), Fault> {
+        let last_image = segment.actions.iter().rposition(Action::is_image);
+        if last_image.is_none() {
+            self.twist()?;
+        }
+        for (at, action) in segment.actions.iter().enumerate() {
+            self.act(action)?;
+            if last_image == Some(at) {
+                self.twist()?;
+            }
+        }
+        Ok(())
+    }
+
+    /// Chooses the call that fails or stops.
+    fn twist(&mut self) -> Result<(), Fault> {
         match self.twist {
             Twist::Fails(call) => self.bay.fail_at(&[call])?,
             Twist::Stops(call, bytes) => self.bay.image_at(call, bytes),
             _ => {}
-        }
-        for action in &segment.actions {
-            self.act(action)?;
         }
         Ok(())
     }
@@ -124,8 +137,12 @@ impl<'a> Player<'a> {
         }
     }
 
+    /// The bay becomes an image, whose calls are counted from 0: the calls that were answered so far came before them.
     fn crash(&mut self, keep: Keep, removed: &[u8]) -> Result<(), Fault> {
         self.bay = image_of(self.alloc, &self.bay, keep, removed)?;
+        for call in &mut self.answered {
+            call.mark = 0;
+        }
         Ok(())
     }
 
@@ -256,25 +273,36 @@ impl<'a> Player<'a> {
         }
     }
 
+    /// Compares the map that the array says with what a store opened over it serves, and both with what is wanted. A call
+    /// whose image is kept changes nothing else, so its map was compared without it.
     fn map(&mut self, line: usize, is: &MapIs) -> Result<(), Fault> {
-        let alloc = self.alloc;
-        let got = served(alloc, &self.bay)?;
-        let is_wanted = match (&got, is) {
-            (Some(got), MapIs::These(objects)) => got == objects,
-            (Some(got), MapIs::BeforeOrAfter) => self.maps.iter().any(|map| map == got),
-            (None, _) => false,
-        };
-        if is_wanted {
+        if matches!(self.twist, Twist::Stops(..)) {
             return Ok(());
         }
-        let got = match &got {
-            Some(got) => told_objects(alloc, got)?,
-            None => String::from_str(alloc, "not opened")?,
+        let alloc = self.alloc;
+        let said = scanned(alloc, &self.bay)?;
+        let is_wanted = match is {
+            MapIs::These(objects) => said == *objects,
+            MapIs::BeforeOrAfter => self.maps.iter().any(|map| *map == said),
         };
+        let served = served(alloc, &self.bay)?;
+        let is_served = served.as_ref() == Some(&said);
+        if is_wanted && is_served {
+            return Ok(());
+        }
         let wanted = match is {
             MapIs::These(objects) => told_objects(alloc, objects)?,
             MapIs::BeforeOrAfter => told_maps(alloc, self.maps)?,
         };
+        let mut got = told_objects(alloc, &said)?;
+        if !is_served {
+            let others = match &served {
+                Some(objects) => told_objects(alloc, objects)?,
+                None => String::from_str(alloc, "not opened")?,
+            };
+            got.push_str(", served as ")?;
+            got.push_str(&others)?;
+        }
         self.differs(line, wanted, got)
     }
 }

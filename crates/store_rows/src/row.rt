@@ -102,6 +102,13 @@ pub(crate) enum Action {
     },
 }
 
+impl Action {
+    /// Whether the bay becomes an image of what it held.
+    pub(crate) fn is_image(&self) -> bool {
+        matches!(self, Action::Crash { .. } | Action::Without { .. })
+    }
+}
+
 /// How what stands above is run again, for what stands below.
 #[derive(Clone, Copy, Debug)]
 pub(crate) enum Variation {

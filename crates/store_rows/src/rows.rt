@@ -173,7 +173,7 @@ fn maps_behind(
     };
     match twist {
         Twist::Stops(call, _) => around(alloc, &before, segment, &plain.answered, call),
-        _ => with_one_more(alloc, &before, segment, &varied.answered),
+        _ => with_one_more(alloc, &before, segment, &plain.answered, &varied.answered),
     }
 }
 
@@ -225,17 +225,21 @@ fn behind(
     Ok(objects)
 }
 
-/// The map behind all calls that were done, and that with the first one that wasn't.
+/// The map behind all calls that were done, and that with the first one that wasn't, though it is where no call fails.
 fn with_one_more(
     alloc: Global,
     before: &Objects,
     segment: &Segment,
+    plain: &[Answered],
     answered: &[Answered],
 ) -> Result<Vec<Objects>, Fault> {
     let done = behind(alloc, before, segment, answered, usize::MAX)?;
     let mut more = copied(alloc, &done)?;
     let calls = calls_of(alloc, segment)?;
-    let failed = answered.iter().position(|call| !call.is_done);
+    let failed = plain
+        .iter()
+        .zip(answered)
+        .position(|(was, is)| was.is_done && !is.is_done);
     if let Some(request) = failed.and_then(|at| calls.get(at)) {
         apply(alloc, &mut more, request)?;
     }

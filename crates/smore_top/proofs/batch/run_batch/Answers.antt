@@ -1,28 +1,40 @@
-use Rattle.std.proofs.Common.{true, arith}
-use Rattle.zone_bay.specs.Outside.{Rose}
-use Rattle.smore_top.proofs.CoreLaws.{proceeds_nowhere}
-use Rattle.smore_top.proofs.BatchLaws.{runs_from, completes}
+use Rattle.std.proofs.Common.{rules, ◌≡◌, inr, ◌∙◌, sym, ap, subst}
+use Rattle.std.specs.List.Sorted.{IsNonDecreasing}
+use Rattle.smore_top.specs.declared.end.End.{End}
+use Rattle.smore_top.specs.declared.batch.Outcome.{Outcome}
+use Rattle.smore_top.specs.End.{end_of}
+use Rattle.smore_top.specs.Words.{IsBatch}
+use Rattle.smore_top.specs.Headline.{sides, RunsBatch, AcknowledgeEach}
+use Rattle.smore_top.proofs.EndLaws.{end_of-status_of, open_is_not_words}
+use Rattle.smore_top.proofs.RunLaws.{ran}
+use Rattle.smore_top.proofs.Stopping.{acknowledge_each}
+use Rattle.smore_top.proofs.Through.{marks_rise, opened_run}
 use Rattle.smore_top.proofs.batch.run_batch.Goals as goal
+use Rattle.smore_top.proofs.batch.run_batch.Goals.{After-outcome-outcome}
 
-pub returns-then-not-is_batch-clause-goes_on : goal.returns-then-not-is_batch-clause-goes_on
-returns-then-not-is_batch-clause-goes_on g c = proceeds_nowhere true (g.B.Bay.state c.args.bay)
+-- the end is that of the run
+end_is : (g : _) (c : After-outcome-outcome g) → end_of c.outcome-outcome.result.status ≡ c.answer_all-run.result.end
+end_is g c = ap (λ (o : Outcome). end_of o.status) c.outcome-outcome.ensures ∙ end_of-status_of c.answer_all-run.result.end
 
-pub returns-clause-runs : goal.returns-clause-runs
-returns-clause-runs g c = λ not_words not_bay.
-    let outcome = c.answer_all-outcome in
-    rw c.into_bay.ensures (
-    runs_from (g.B.Bay.state c.args.bay).shape c.in-Ok.core.geometry outcome.result.status outcome.result.calls
-    (g.S.Source.left c.args.source.now) (g.K.Sink.held c.args.sink.now) (g.S.Source.left outcome.new.source) (g.K.Sink.held outcome.new.sink)
-    (g.B.Bay.state c.args.bay).contents (g.B.Bay.state c.in-Ok.core.bay).contents (g.B.Bay.state outcome.new.core.bay).contents
-    (Rose ((g.B.Bay.state c.in-Ok.core.bay).faults 0) ((g.B.Bay.state outcome.new.core.bay).faults 0)) (Rose ((g.B.Bay.state c.args.bay).faults 0) ((g.B.Bay.state outcome.new.core.bay).faults 0))
-    c.in-Ok.ensures.same (λ rose. omega (arith, rose, c.in-Ok.ensures.goes_on.goes_on.no_fewer 0)) c.in-Ok.ensures.found outcome.ensures.runs
+pub returns-clause-words : goal.returns-clause-words
+returns-clause-words g c =
+    let batch : IsBatch c.args.words.now = search rules in (
+      λ is. absurd (open_is_not_words _ c.answer_all-run.ensures.runs.ends (sym (end_is g (goal.at.returns-clause-words g c).After-outcome-outcome) ∙ is)),
+      λ other. absurd (other batch),
     )
 
-pub returns-clause-complete : goal.returns-clause-complete
-returns-clause-complete g c =
-    let outcome = c.answer_all-outcome in
-    completes c.in-Ok.core.geometry.blocks c.in-Ok.core.geometry.shard outcome.result.status outcome.result.calls
-    (g.S.Source.left c.args.source.now) (g.K.Sink.held c.args.sink.now) (g.S.Source.left outcome.new.source) (g.K.Sink.held outcome.new.sink)
-    (g.B.Bay.state c.args.bay).contents (g.B.Bay.state c.in-Ok.core.bay).contents (g.B.Bay.state outcome.new.core.bay).contents
-    (Rose ((g.B.Bay.state c.in-Ok.core.bay).faults 0) ((g.B.Bay.state outcome.new.core.bay).faults 0)) (Rose (g.S.Source.faults c.args.source.now) (g.S.Source.faults outcome.new.source)) (Rose (g.K.Sink.faults c.args.sink.now) (g.K.Sink.faults outcome.new.sink))
-    c.in-Ok.ensures.same outcome.ensures.runs outcome.ensures.known.0 outcome.ensures.source_failed outcome.ensures.sink_failed
+pub returns-clause-batch : goal.returns-clause-batch
+returns-clause-batch g c =
+    let run = c.answer_all-run.result in
+    let before = sides (g.S.Source.left c.args.source.now) (g.K.Sink.held c.args.sink.now) c.args.bay in
+    let after = sides (g.S.Source.left c.answer_all-run.new.source) (g.K.Sink.held c.answer_all-run.new.sink) c.into_bay.result in
+    let runs : RunsBatch g.B.Bay (ran (end_of c.outcome-outcome.result.status) run.calls run.marks.items) before after =
+    subst (λ (end : End). RunsBatch g.B.Bay (ran end run.calls run.marks.items) before after) (sym (end_is g (goal.at.returns-clause-batch g c).After-outcome-outcome))
+    (opened_run g.B.Bay g.met.B.Bay.sound (ran run.end run.calls run.marks.items) before after c.in-Ok.core c.answer_all-run.new.core c.in-Ok.ensures c.answer_all-run.ensures.runs c.into_bay.ensures.same c.into_bay.ensures.map) in
+    inr (subst (λ (o : Outcome). RunsBatch g.B.Bay (ran (end_of c.outcome-outcome.result.status) o.calls o.marks.items) before after) (sym c.outcome-outcome.ensures) runs)
+
+pub returns-clause-rising : goal.returns-clause-rising
+returns-clause-rising g c = subst (λ (o : Outcome). IsNonDecreasing o.marks.items) (sym c.outcome-outcome.ensures) (marks_rise g.B.Bay.state _ _ _ c.answer_all-run.ensures.runs)
+
+pub returns-clause-acknowledged : goal.returns-clause-acknowledged
+returns-clause-acknowledged g c = subst (λ (o : Outcome). AcknowledgeEach o.marks.items) (sym c.outcome-outcome.ensures) (acknowledge_each _ (marks_rise g.B.Bay.state _ _ _ c.answer_all-run.ensures.runs))

@@ -1,9 +1,0 @@
-use Rattle.smore_base.specs.Told.{Told}
-use Rattle.smore_top.specs.Format.{AreEmptied}
-use Rattle.smore_top.proofs.FormatSteps.{AreAnswered}
-use Rattle.smore_top.proofs.format.empty_device.Given as goal
-
-abbrev pub invariant-loop-zone : goal.invariant-loop-zone
-invariant-loop-zone g l =
-    AreAnswered (g.B.Bay.state l.initial.bay) (g.B.Bay.state l.bay)
-    × Told (g.B.Bay.state l.initial.bay).contents (g.B.Bay.state l.bay).contents (AreEmptied l.device l.zone)

@@ -1,0 +1,108 @@
+//! The records of a step: their markers, and their blocks.
+ghost use Rattle.std.specs.Prelude.{◌≡◌, ◌+◌, ◌*◌, ◌<◌, ◌≤◌, ◌^◌, ◌++◌, length, drop};
+ghost use Rattle.marker_format.specs.Marker.{IsMarker};
+ghost use Rattle.store_core.specs.Blocks.{blocks_of};
+ghost use Rattle.store_core.specs.Records.{record_bytes};
+
+use crate::blocks::{BLOCK, CONTENT, write_fragment};
+use marker_format::{Kind, Marker, write_marker_block};
+use smore_base::Name;
+
+/// Where a record goes: its set and index, how many records stand before it, and the array.
+#[derive(Clone, Copy, Debug)]
+pub(crate) struct RecordPlace {
+    pub(crate) set: u64,
+    pub(crate) index: u8,
+    pub(crate) position: u16,
+    pub(crate) array: [u8; 16],
+}
+
+impl RecordPlace {
+    ghost use Rattle.store_core.specs.Records.{plain_marker, part_marker, put_marker, delete_marker, next_place};
+
+    /// A marker without what only some kinds have.
+    pub(crate) fn marker(&self, kind: Kind) -> Marker
+        ensures { result ≡ plain_marker self.now kind }
+    {
+        Marker {
+            kind: kind.number(),
+            index: self.index,
+            k: 1,
+            n: 2,
+            set: self.set,
+            position: self.position,
+            fragment: 0,
+            stamp: 0,
+            upload: 0,
+            part: 0,
+            parts: 0,
+            length: 0,
+            payload: 0,
+            array: self.array,
+            name: None,
+        }
+    }
+
+    /// The marker of an upload's only part.
+    pub(crate) fn part(&self, upload: u64, bytes: u16) -> Marker
+        ensures { result ≡ part_marker self.now upload bytes }
+    {
+        Marker {
+            fragment: bytes,
+            upload,
+            payload: u32::from(bytes),
+            ..self.marker(Kind::Part)
+        }
+    }
+
+    /// The note of a put, whose stamp is its upload's number too.
+    pub(crate) fn put_note(&self, stamp: u64, length: u32, name: Name) -> Marker
+        ensures { result ≡ put_marker self.now stamp length name }
+    {
+        Marker {
+            stamp,
+            upload: stamp,
+            parts: if length == 0 { 0 } else { 1 },
+            length,
+            name: Some(name),
+            ..self.marker(Kind::Put)
+        }
+    }
+
+    /// The note of a delete.
+    pub(crate) fn delete_note(&self, stamp: u64, name: Name) -> Marker
+        ensures { result ≡ delete_marker self.now stamp name }
+    {
+        Marker {
+            stamp,
+            name: Some(name),
+            ..self.marker(Kind::Delete)
+        }
+    }
+
+    /// The place behind one record more.
+    pub(crate) fn next(&self) -> RecordPlace
+        requires { self.now.position + 1 < 2 ^ 16 }
+        ensures { result ≡ next_place self.now }
+    {
+        RecordPlace {
+            set: self.set,
+            index: self.index,
+            position: self.position + 1,
+            array: self.array,
+        }
+    }
+}
+
+/// Writes the blocks of a record at the front, and answers how many bytes they are.
+pub(crate) fn write_record(marker: &Marker, fragment: &[u8], out: &mut [u8]) -> usize
+    requires marker { IsMarker marker.now }
+    requires room { 512 * (1 + blocks_of (length fragment.now)) ≤ length out.old }
+    ensures end { result ≡ 512 * (1 + blocks_of (length fragment.now)) }
+    ensures written { out.new ≡ record_bytes marker.now fragment.now ++ drop result out.old }
+{
+    write_marker_block(marker, &mut out[..BLOCK]);
+    let end = BLOCK + BLOCK * fragment.len().div_ceil(CONTENT);
+    write_fragment(fragment, &mut out[BLOCK..end]);
+    end
+}
