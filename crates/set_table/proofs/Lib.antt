@@ -1,0 +1,14 @@
+pub mod CarrierLaws
+pub mod ChoiceLaws
+pub mod Counts
+pub mod ForgetLaws
+pub mod FormLaws
+pub mod LostLaws
+pub mod MarkLaws
+pub mod MissingLaws
+pub mod RoomLaws
+pub mod RowLaws
+pub mod StayLaws
+pub mod TableLaws
+pub mod UseLaws
+pub mod ZoneLaws

@@ -1,0 +1,6 @@
+use Rattle.std.proofs.Common.{◌≡◌, ◌+◌, ◌≤◌, length, drop}
+use Rattle.set_table.specs.Zones.{before_empty}
+use Rattle.set_table.proofs.drive_zones.next_empty.Given as goal
+
+abbrev pub invariant-loop-zone : goal.invariant-loop-zone
+invariant-loop-zone l = (l.fn.first ≤ l.zone) × (l.zone ≤ length l.fn.uses) × (l.fn.first + before_empty (drop l.fn.first l.fn.uses) ≡ l.zone + before_empty (drop l.zone l.fn.uses))

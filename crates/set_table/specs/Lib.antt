@@ -1,0 +1,3 @@
+pub mod Zones
+pub mod Rows
+pub mod Table
