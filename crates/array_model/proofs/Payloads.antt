@@ -186,7 +186,7 @@ all_values k n bytes c fragments [] code word each = tt
 all_values k n bytes c fragments (f ∷ given) code word each = (ap (λ l. get_or l c 0) each.0.1 ∙ column_is k n bytes c f.index fragments code word each.0.0, all_values k n bytes c fragments given code word each.1)
 
 -- Each fragment of the code is had from k of them.
-fragment_is : (k n bytes i : ℕ) (fragments : List (List ℕ)) (given : List Fragment) → n ≤ 256 → i < n → IsCode k n bytes fragments → AreSome k n fragments given → fragment_from given bytes i ≡ fragment_of fragments i
+pub fragment_is : (k n bytes i : ℕ) (fragments : List (List ℕ)) (given : List Fragment) → n ≤ 256 → i < n → IsCode k n bytes fragments → AreSome k n fragments given → fragment_from given bytes i ≡ fragment_of fragments i
 fragment_is k n bytes i fragments given fits below code some =
     let xs = fragment_of fragments i in
     let long = code.lengths i below in

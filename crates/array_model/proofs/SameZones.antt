@@ -9,7 +9,8 @@ use Rattle.marker_format.specs.declared.marker.Marker.{Marker}
 use Rattle.marker_format.specs.Kind.{kind_of}
 use Rattle.marker_format.specs.Zone.{Array, IsWhole, Stand, begun, blocks_of, has_foot, is_rebuilt, may_stand, trailer_follows, whole_records}
 use Rattle.marker_format.proofs.ZoneLaws.{Begin-begun}
-use Rattle.array_model.specs.Payload.{fragment_at, payload_from}
+use Rattle.array_model.specs.Payload.{payload_from}
+use Rattle.marker_format.specs.Fragment.{fragment_at}
 use Rattle.array_model.specs.Drives.{Place, bytes_at, records_at, first_of, head_at, is_of, is_among, present, places_on}
 use Rattle.array_model.specs.Reading.{Carrier, carries, carrier_of, fragments_of, carriers_of, common_of, agreed, fragment_on, payload_of, record_by, records_from, are_closed, set_from, read_set, with_id, with_head, ids_at, reading}
 use Rattle.array_model.specs.Sets.{RiseAbove}

@@ -1,5 +1,5 @@
 -- Which sets are worth cleaning, and which one is cleaned.
-use Rattle.std.specs.Prelude.{ℕ, ◌+◌, ◌*◌, Bool, ◌&&◌, nat_le, ◌==◌, List, [], ◌∷◌, length, filter, sum_by, Option, Some, None, if◌then◌else◌}
+use Rattle.std.specs.Prelude.{ℕ, ◌*◌, Bool, ◌&&◌, nat_le, ◌==◌, List, [], ◌∷◌, length, filter, sum_by, Option, Some, None, if◌then◌else◌}
 use Rattle.std.specs.Int.{div_ceil}
 use Rattle.std.specs.List.{list_any, find}
 use Rattle.smore_base.specs.Room.{record_blocks}

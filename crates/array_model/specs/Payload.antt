@@ -1,12 +1,10 @@
 -- The payload of a record, from k of its fragments. The bytes of the fragments in each column are the values of one polynomial
 -- of degree below k at the points that are their indexes, and the first k fragments are the payload, padded with zeros.
-use Rattle.std.specs.Prelude.{◌≡◌, ◌*◌, ◌-◌, ◌<◌, ◌++◌, replicate, slice_index_or, ℕ, zero, suc, ◌==◌, List, [], ◌∷◌, length, map, take, drop, slice_index, bit_xor, nat_eq, if◌then◌else◌}
+use Rattle.std.specs.Prelude.{◌≡◌, ◌*◌, ◌-◌, ◌<◌, ◌++◌, replicate, slice_index_or, ℕ, zero, suc, ◌==◌, List, [], ◌∷◌, length, map, take, slice_index, bit_xor, nat_eq, if◌then◌else◌}
 use Rattle.std.specs.List.{AllByRecursion, IsDistinct, concat, flat_map, range_with_len}
 use Rattle.std.specs.Int.{div_ceil}
-use Rattle.smore_base.specs.declared.limits.TheConstants.{CONTENT_BYTES}
 use Rattle.gf_field.specs.Product.{product}
 use Rattle.gf_field.specs.Polynomial.{IsCodeword}
-use Rattle.marker_format.specs.Zone.{block_at}
 
 -- a to the power n, in the field of bytes
 unfoldable pub power : ℕ → ℕ → ℕ
@@ -48,14 +46,6 @@ fragment_from given bytes index = map (λ c. interpolated (indexes_of given) (by
 -- the payload of so many bytes, from k given fragments
 unfoldable pub payload_from : ℕ → List Fragment → ℕ → List ℕ
 payload_from k given bytes = take bytes (flat_map (fragment_from given (div_ceil bytes k)) (range_with_len 0 k))
-
--- the content of the block of this number
-abbrev pub content_at : List ℕ → ℕ → List ℕ
-content_at zone block = drop 1 (block_at zone block)
-
--- the fragment of so many bytes that lies in the blocks from this one on
-abbrev pub fragment_at : List ℕ → ℕ → ℕ → List ℕ
-fragment_at zone block bytes = take bytes (flat_map (content_at zone) (range_with_len block (div_ceil bytes CONTENT_BYTES)))
 
 -- ---- codes
 

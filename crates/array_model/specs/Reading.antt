@@ -9,7 +9,8 @@ use Rattle.marker_format.specs.declared.marker.Marker.{Marker}
 use Rattle.marker_format.specs.Kind.{code_of, kind_of}
 use Rattle.marker_format.specs.Marker.{spelling_of, bytes_of_name}
 use Rattle.marker_format.specs.Zone.{Array, has_foot, blocks_of}
-use Rattle.array_model.specs.Payload.{Fragment, payload_from, fragment_at}
+use Rattle.array_model.specs.Payload.{Fragment, payload_from}
+use Rattle.marker_format.specs.Fragment.{fragment_at}
 use Rattle.array_model.specs.Drives.{Place, present, places_on, bytes_at, records_at, head_at, is_of}
 use Rattle.array_model.specs.Record.{Record, Head, Ready, Part, Put, Delete, Cut, Digest, Snapshot}
 use Rattle.array_model.specs.Sets.{ReadSet}

@@ -10,7 +10,8 @@ use Rattle.std.proofs.lemmas.Grind.{common_steps, flat_map-append}
 use Rattle.std.proofs.Math.Nat.{mul-div_cancel_left, mul-mod_right}
 use Rattle.zone_bay.specs.Contents.{Contents}
 use Rattle.rs_code.specs.Fragments as code
-use Rattle.array_model.specs.Payload.{Fragment, indexes_of, byte_of, interpolated, fragment_from, payload_from, fragment_at, fragment_of, IsCode, AreFragments}
+use Rattle.array_model.specs.Payload.{Fragment, indexes_of, byte_of, interpolated, fragment_from, payload_from, fragment_of, IsCode, AreFragments}
+use Rattle.marker_format.specs.Fragment.{fragment_at}
 use Rattle.array_model.specs.Drives.{bytes_at}
 use Rattle.array_model.specs.Reading.{fragment_on}
 use Rattle.array_model.proofs.Payloads.{payload_is_read}

@@ -5,7 +5,7 @@ use Rattle.std.specs.List.{flat_map, range_with_len}
 use Rattle.std.proofs.lemmas.List.{drop-take, drop-drop, take_at, take_min, take_more, length-append, length-drop, drop_all, map-append}
 use Rattle.std.proofs.lemmas.Grind.{flat_map-append}
 use Rattle.zone_bay.specs.Bay.{BayState}
-use Rattle.array_model.specs.Payload.{content_at}
+use Rattle.marker_format.specs.Fragment.{content_at}
 use Rattle.array_model.specs.Drives.{Place, bytes_at}
 use Rattle.array_scan.specs.Calls.{OnlyRead}
 use Rattle.array_scan.specs.declared.set_read.Carrier.{Carrier}

@@ -2,7 +2,8 @@
 use Rattle.std.specs.Prelude.{ℕ, ◌+◌, ◌-◌, List, [], ◌∷◌, ◌++◌, length, take, drop, replicate}
 use Rattle.std.specs.List.{flat_map}
 use Rattle.zone_bay.specs.Contents.{Contents}
-use Rattle.array_model.specs.Payload.{Fragment, fragment_at}
+use Rattle.array_model.specs.Payload.{Fragment}
+use Rattle.marker_format.specs.Fragment.{fragment_at}
 use Rattle.array_model.specs.Drives.{bytes_at}
 use Rattle.array_scan.specs.declared.set_read.Carrier.{Carrier}
 use Rattle.array_scan.specs.declared.set_read.RecordAt.{RecordAt}

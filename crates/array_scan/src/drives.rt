@@ -16,7 +16,7 @@ use std::alloc::Global;
 use zone_bay::Bay;
 
 /// Bytes of a block, as an index.
-const BLOCK: usize = 512;
+const BLOCK: usize = BLOCK_BYTES as usize;
 
 /// The version of labels that there is.
 const VERSION: u8 = 1;

@@ -4,7 +4,8 @@ ghost use Rattle.std.specs.Int.{div_ceil};
 ghost use Rattle.std.specs.List.{AllByRecursion};
 ghost use Rattle.zone_bay.specs.Contents.{Reads};
 ghost use Rattle.rs_code.specs.Fragments.{AreIndexes};
-ghost use Rattle.array_model.specs.Payload.{content_at, fragment_at, payload_from};
+ghost use Rattle.array_model.specs.Payload.{payload_from};
+ghost use Rattle.marker_format.specs.Fragment.{content_at, fragment_at};
 ghost use Rattle.array_model.specs.Drives.{bytes_at};
 ghost use Rattle.array_scan.specs.Calls.{OnlyRead, lost_by};
 ghost use Rattle.array_scan.specs.SetRead.{place_of, IsPlaceIn, IsCarrierIn, FitsBay};
@@ -15,15 +16,15 @@ use crate::refusal::ScanRefusal;
 use crate::set_read::{Carrier, RecordAt, SetRead, ZonePlace};
 use crate::zone::written;
 use rs_code::Code;
-use smore_base::{CONTENT_BYTES, Memory};
+use smore_base::{BLOCK_BYTES, CONTENT_BYTES, Memory};
 use std::alloc::Global;
 use zone_bay::Bay;
 
 /// Bytes of a block.
-const BLOCK: u64 = 512;
+const BLOCK: u64 = BLOCK_BYTES as u64;
 
 /// Bytes of a block behind its first one.
-const CONTENT: usize = 511;
+const CONTENT: usize = CONTENT_BYTES as usize;
 
 /// Fills `out` from the zone's byte `at` on.
 fn read_into<B: Bay>(

@@ -3,6 +3,7 @@ use Rattle.std.proofs.Common.{◌≡◌, ◌≢◌, ◌⊎◌, ℕ, ◌+◌, ◌
 use Rattle.std.specs.List.{Contains}
 use Rattle.std.proofs.lemmas.List.{get_or_append_left, get_or_push, get_or_past, get_or-replicate, length-append, length-map, length-replicate, length-take, map-append, take_all, take_min, append-nil}
 use Rattle.std.proofs.lemmas.Bool.{cases_eq, cases_lt, eq-eqb, ne_eqb}
+use Rattle.smore_base.specs.declared.limits.TheConstants.{BLOCK_BYTES}
 use Rattle.zone_bay.specs.Contents.{Shape, Contents, Lengths}
 use Rattle.zone_bay.proofs.Images.{same_contents, missing_hold_nothing, others_keep_theirs}
 use Rattle.bay_memory.specs.declared.crash.Crash.{Crash}
@@ -64,7 +65,7 @@ behind_outside (Some put) shape held d z fits outside = elim (cases_eq d put.dev
   | inr other ↦ rw (ne_eqb d put.device other) refl
 ]
 
-behind_fits : (put : Option Put) (shape : Shape) (held : Contents) (d z : ℕ) → PutFits put shape held → length (held d z) ≤ 512 * shape.blocks → length (held d z) + length (behind_in put d z) ≤ 512 * shape.blocks
+behind_fits : (put : Option Put) (shape : Shape) (held : Contents) (d z : ℕ) → PutFits put shape held → length (held d z) ≤ BLOCK_BYTES * shape.blocks → length (held d z) + length (behind_in put d z) ≤ BLOCK_BYTES * shape.blocks
 behind_fits None shape held d z fits room = omega arith
 behind_fits (Some put) shape held d z fits room = elim (cases_eq d put.device) [
   | inl same ↦ elim (cases_eq z put.zone) [
@@ -152,7 +153,7 @@ module _ (shape : Shape) (old new : List View) (counted : length old ≡ shape.d
   copies_hold = same_contents (contents_in new) left (λ d z. ap (λ (s : State). s.bytes) (left_fresh d z).holds)
 
   -- no more than there is room for
-  left_fits : (d z : ℕ) → length (left d z) ≤ 512 * shape.blocks
+  left_fits : (d z : ℕ) → length (left d z) ≤ BLOCK_BYTES * shape.blocks
   left_fits d z = elim (left_is d z) [
     | inl none ↦ rw none (omega arith)
     | inr is ↦

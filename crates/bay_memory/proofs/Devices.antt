@@ -5,6 +5,7 @@ use Rattle.std.specs.Result.{is_ok, OnOk, OnErr}
 use Rattle.std.proofs.lemmas.List.{get_or-map, map-set, length-map, length-set, length-append}
 use Rattle.std.proofs.lemmas.Result.{on_ok_weaker, on_err_weaker}
 use Rattle.std.proofs.lemmas.Bool.{cases_eq, eq-eqb, ne_eqb}
+use Rattle.smore_base.specs.declared.limits.TheConstants.{BLOCK_BYTES}
 use Rattle.zone_bay.specs.Outside.{counted}
 use Rattle.zone_bay.specs.Contents.{Contents}
 use Rattle.zone_bay.specs.Bay.{Call, Written, Read, Append, Reset, Flush, Replace, device_of}
@@ -24,9 +25,9 @@ after-there call d z other = choice_false (d == device_of call) (zone_after call
 
 -- a zone holds no more than its blocks, and has no more bytes firm than it holds
 abbrev Bounded : ℕ → State → Type 0
-Bounded blocks state = (length state.bytes ≤ 512 * blocks) × (state.firm ≤ length state.bytes)
+Bounded blocks state = (length state.bytes ≤ BLOCK_BYTES * blocks) × (state.firm ≤ length state.bytes)
 
-bounded_zone : (call : Call) (blocks : ℕ) (held : Contents) (z : ℕ) (state : State) → Fits call (512 * blocks) held → state.bytes ≡ held (device_of call) z → Bounded blocks state → Bounded blocks (zone_after call z state)
+bounded_zone : (call : Call) (blocks : ℕ) (held : Contents) (z : ℕ) (state : State) → Fits call (BLOCK_BYTES * blocks) held → state.bytes ≡ held (device_of call) z → Bounded blocks state → Bounded blocks (zone_after call z state)
 bounded_zone (Written device zone) blocks held z state fits is bounded = bounded
 bounded_zone (Read device zone) blocks held z state fits is bounded = bounded
 bounded_zone (Append device zone bytes) blocks held z state fits is bounded = elim (cases_eq z zone) [
@@ -43,14 +44,14 @@ bounded_zone (Reset device zone) blocks held z state fits is bounded = elim (cas
 bounded_zone (Flush device) blocks held z state fits is bounded = (bounded.0, omega arith)
 bounded_zone (Replace device) blocks held z state fits is bounded = (omega arith, omega arith)
 
-bounded_after : (call : Call) (blocks : ℕ) (views : List View) → Fits call (512 * blocks) (contents_in views) → ((d z : ℕ) → Bounded blocks (now (track_at views d z))) → (d z : ℕ) → Bounded blocks (state_after call d z (now (track_at views d z)))
+bounded_after : (call : Call) (blocks : ℕ) (views : List View) → Fits call (BLOCK_BYTES * blocks) (contents_in views) → ((d z : ℕ) → Bounded blocks (now (track_at views d z))) → (d z : ℕ) → Bounded blocks (state_after call d z (now (track_at views d z)))
 bounded_after call blocks views fits bounded d z = elim (cases_eq d (device_of call)) [
   | inl here ↦ rw (eq-eqb d (device_of call) here) (bounded_zone call blocks (contents_in views) z (now (track_at views d z)) fits (ap (λ (n : ℕ). contents_in views n z) here) (bounded d z))
   | inr there ↦ rw (ne_eqb d (device_of call) there) (bounded d z)
 ]
 
 -- an array stays whole
-pub whole_changed : (zones blocks moment : ℕ) (call : Call) (old new : List View) → IsWhole zones blocks old → Fits call (512 * blocks) (contents_in old) → ArrayGoes moment call old new → IsWhole zones blocks new
+pub whole_changed : (zones blocks moment : ℕ) (call : Call) (old new : List View) → IsWhole zones blocks old → Fits call (BLOCK_BYTES * blocks) (contents_in old) → ArrayGoes moment call old new → IsWhole zones blocks new
 whole_changed zones blocks moment call old new whole fits goes = record {
   few = omega (arith, whole.few, goes.count);
   zones_held = λ d within. goes.zones d ∙ whole.zones_held d (omega (arith, goes.count));
@@ -65,7 +66,7 @@ pub whole_kept : (zones blocks : ℕ) (old new : List View) → IsWhole zones bl
 whole_kept zones blocks old new whole keeps = record {
   few = omega (arith, whole.few, keeps.count);
   zones_held = λ d within. ap length (keeps.tracks d) ∙ whole.zones_held d (omega (arith, keeps.count));
-  fits = λ d z. subst (λ (t : List Track). length (now (track_in t z)).bytes ≤ 512 * blocks) (sym (keeps.tracks d)) (whole.fits d z);
+  fits = λ d z. subst (λ (t : List Track). length (now (track_in t z)).bytes ≤ BLOCK_BYTES * blocks) (sym (keeps.tracks d)) (whole.fits d z);
   firm_held = λ d z. subst (λ (t : List Track). (now (track_in t z)).firm ≤ length (now (track_in t z)).bytes) (sym (keeps.tracks d)) (whole.firm_held d z);
 }
 
@@ -157,7 +158,7 @@ module _ (devices : List Device) (i : ℕ) (old new : Device) (in_list : i < len
         lost = each_view (λ d v w. w.lost ≡ lost_after call (is_ok r) d v.lost) (rw asked makes.lost) (λ d h. lost_elsewhere call (is_ok r) d _ (λ same. h (same ∙ sym asked)))
 
 -- the array stays whole
-pub whole_made : {T E : Type 0} (zones blocks moment : ℕ) (call : Call) (old new : List View) (r : Result T E) → IsWhole zones blocks old → Fits call (512 * blocks) (contents_in old) → ArrayMakes moment call old new r → IsWhole zones blocks new
+pub whole_made : {T E : Type 0} (zones blocks moment : ℕ) (call : Call) (old new : List View) (r : Result T E) → IsWhole zones blocks old → Fits call (BLOCK_BYTES * blocks) (contents_in old) → ArrayMakes moment call old new r → IsWhole zones blocks new
 whole_made zones blocks moment call old new r whole fits makes = either_way r
     (on_ok_weaker r (whole_changed zones blocks moment call old new whole fits) makes.ok)
     (on_err_weaker r (λ kept. whole_kept zones blocks old new whole kept.0) makes.err)

@@ -1,5 +1,6 @@
 -- What the devices of an array tell, and what a call does to that.
 use Rattle.std.specs.Prelude.{◌≡◌, ◌≢◌, ℕ, ◌*◌, ◌<◌, ◌≤◌, ◌==◌, Bool, List, [], length, slice_index_or, Result, is_ok, OnOk, OnErr, if◌then◌else◌}
+use Rattle.smore_base.specs.declared.limits.TheConstants.{BLOCK_BYTES}
 use Rattle.zone_bay.specs.Outside.{counted}
 use Rattle.zone_bay.specs.Contents.{Contents, Lengths}
 use Rattle.zone_bay.specs.Bay.{Call, device_of}
@@ -22,7 +23,7 @@ firm_in views device zone = (now (track_at views device zone)).firm
 pub record IsWhole (zones blocks : ℕ) (views : List View) : Type 0 where
   pub few : length views < 256
   pub zones_held : (d : ℕ) → d < length views → length (view_at views d).tracks ≡ zones
-  pub fits : (d z : ℕ) → length (contents_in views d z) ≤ 512 * blocks
+  pub fits : (d z : ℕ) → length (contents_in views d z) ≤ BLOCK_BYTES * blocks
   pub firm_held : (d z : ℕ) → firm_in views d z ≤ length (contents_in views d z)
 
 abbrev pub AllSteady : ℕ → List View → Type 0

@@ -1,5 +1,6 @@
 -- The calls, what each requires, and what one has done when a crash comes.
 use Rattle.std.specs.Prelude.{◌≡◌, ℕ, Bool, false, true, ◌+◌, ◌*◌, ◌<◌, ◌≤◌, ◌&&◌, ◌==◌, List, [], length, take, Option, None, Some, ⊤, if◌then◌else◌}
+use Rattle.smore_base.specs.declared.limits.TheConstants.{BLOCK_BYTES}
 use Rattle.zone_bay.specs.Contents.{Shape, Contents, appended}
 use Rattle.zone_bay.specs.Bay as bay
 use Rattle.zone_bay.specs.Bay.{Call, device_of}
@@ -33,7 +34,7 @@ Fits call room held = ⊤
 pub record IsWithin (call : Call) (shape : Shape) (held : Contents) : Type 0 where
   pub device_in : device_of call < shape.devices
   pub zone_in : ZoneIn call shape.zones
-  pub fits : Fits call (512 * shape.blocks) held
+  pub fits : Fits call (BLOCK_BYTES * shape.blocks) held
 
 -- what is held when so many bytes of an append are done, and nothing of another call
 abbrev pub done_by : ℕ → Call → Contents → Contents

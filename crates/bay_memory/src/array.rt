@@ -1,4 +1,5 @@
 ghost use Rattle.std.specs.Prelude.{◌≡◌, ◌^◌, ◌*◌, ◌<◌, true, [], replicate, map, length, IfOk};
+ghost use Rattle.smore_base.specs.declared.limits.TheConstants.{BLOCK_BYTES};
 ghost use Rattle.bay_memory.specs.Device.{view_of, view_with};
 ghost use Rattle.bay_memory.specs.Past.{blank_track};
 ghost use Rattle.bay_memory.specs.Array.{IsWhole};
@@ -13,7 +14,7 @@ pub(crate) struct Array {
     zones: u16,
     blocks: u32,
     devices: Vec<Device>,
-    ghost small: { 512 * blocks < 2 ^ 32 },
+    ghost small: { BLOCK_BYTES * blocks < 2 ^ 32 },
     ghost whole: { IsWhole zones blocks (map view_of devices.items) },
 }
 
@@ -35,7 +36,7 @@ impl Array {
 
     /// An array whose zones hold nothing.
     pub fn blank(alloc: Global, devices: u8, zones: u16, blocks: u32) -> Result<Array, AllocError>
-        requires { 512 * blocks < 2 ^ 32 }
+        requires { BLOCK_BYTES * blocks < 2 ^ 32 }
         ensures shape { IfOk result (λ array. shape_of array ≡ record { devices = devices; zones = zones; blocks = blocks }) }
         ensures contents { IfOk result (λ array. contents_in (views_of array) ≡ (λ _ _. [])) }
         ensures fresh { IfOk result (λ array. AreFresh (views_of array)) }
@@ -45,7 +46,7 @@ impl Array {
 
     /// An array of these devices.
     pub fn of(zones: u16, blocks: u32, devices: Vec<Device>) -> Array
-        requires small { 512 * blocks < 2 ^ 32 }
+        requires small { BLOCK_BYTES * blocks < 2 ^ 32 }
         requires whole { IsWhole zones blocks (map view_of devices.items) }
         ensures shape { shape_of result ≡ record { devices = length devices.items; zones = zones; blocks = blocks } }
         ensures views { views_of result ≡ map view_of devices.items }

@@ -1,4 +1,5 @@
 ghost use Rattle.std.specs.Prelude.{◌≡◌, ℕ, ◌+◌, ◌*◌, ◌<◌, ◌≤◌, ◌++◌, true, Some, None, length, option_map, IfOk, OnOk, OnErr, IsTrue, ◌↔◌};
+ghost use Rattle.smore_base.specs.declared.limits.TheConstants.{BLOCK_BYTES};
 ghost use Rattle.bay_memory.specs.Array.{AllSteady};
 ghost use Rattle.bay_memory.specs.Views.{views_of};
 
@@ -319,7 +320,7 @@ impl Bay for MemoryBay {
     fn append(&mut self, device: u8, zone: u16, bytes: &[u8]) -> Result<(), Failed>
         requires device_in { device < (bay_shape self.old).devices }
         requires zone_in { zone < (bay_shape self.old).zones }
-        requires fits { length (contents_of self.old device zone) + length bytes.now ≤ 512 * (bay_shape self.old).blocks }
+        requires fits { length (contents_of self.old device zone) + length bytes.now ≤ BLOCK_BYTES * (bay_shape self.old).blocks }
         ensures call { Makes (Append device zone bytes.now) (state_of self.old) (state_of self.new) result }
         ensures memory { MakesInMemory (Append device zone bytes.now) self.old self.new result }
     {

@@ -1,11 +1,10 @@
 -- The records that a zone's bytes begin with.
-use Rattle.std.proofs.Common.{◌≡◌, ℕ, zero, suc, ◌+◌, ◌-◌, ◌*◌, ◌/◌, ◌<◌, ◌≤◌, ◌⊎◌, inl, inr, Bool, true, false, cond, List, [], ◌∷◌, ◌++◌, length, take, drop, Option, Some, None, refl, sym, ap, subst, ◌∙◌, arith, append_assoc}
+use Rattle.std.proofs.Common.{◌≡◌, ℕ, zero, suc, ◌+◌, ◌-◌, ◌*◌, ◌/◌, ◌≤◌, Bool, true, false, cond, List, [], ◌∷◌, ◌++◌, length, take, drop, Option, Some, None, refl, sym, ap, subst, ◌∙◌, arith}
 use Rattle.std.specs.Prelude.{◌&&◌, not, nat_le}
 use Rattle.std.specs.List.{last_or}
 use Rattle.std.proofs.lemmas.Bool.{and_parts, and_from, and_left, and_right, leb-true, le-leb}
-use Rattle.std.proofs.lemmas.List.{append-nil, take_at, take_all, take-take, drop-take, length-append, length-take, length-drop, drop_at, take-append-le, drop-append-le}
+use Rattle.std.proofs.lemmas.List.{append-nil, take_at, take-take, drop-take, length-append, length-take, drop_at}
 use Rattle.marker_format.specs.declared.marker.Marker.{Marker}
-use Rattle.marker_format.specs.Marker.{IsMarker}
 use Rattle.marker_format.specs.Block.{marker_block, marker_in_block}
 use Rattle.marker_format.specs.Zone.{Array, block_at, blocks_of, end_from, belongs, may_stand, IsWhole, Stand, Begin, where_passes, next_at, with_more, records_from, begun, IsPrefix, is_rebuilt, trailer_follows, whole_records, Placed, placed_from, placed_records}
 use Rattle.marker_format.specs.Laws.{Fill, MayFollow}

@@ -1,5 +1,5 @@
 -- What follows from the definitions of the formats.
-use Rattle.std.specs.Prelude.{◌≡◌, ℕ, ◌-◌, ◌*◌, ◌≤◌, ◌↔◌, Bool, true, false, List, [], ◌∷◌, ◌++◌, length, take, Some, None}
+use Rattle.std.specs.Prelude.{◌≡◌, ℕ, ◌-◌, ◌*◌, ◌≤◌, ◌↔◌, true, false, List, [], ◌∷◌, ◌++◌, length, take, Some, None}
 use Rattle.std.specs.List.{last_or}
 use Rattle.smore_base.specs.declared.limits.TheConstants.{BLOCK_BYTES}
 use Rattle.marker_format.specs.declared.marker.Marker.{Marker}

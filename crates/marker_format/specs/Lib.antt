@@ -1,5 +1,6 @@
 pub mod Block
 pub mod Foot
+pub mod Fragment
 pub mod Frame
 pub mod Kind
 pub mod Label

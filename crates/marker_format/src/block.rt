@@ -1,6 +1,7 @@
 //! Blocks of 512 bytes: a tag, and 511 bytes of content with zeros at their end.
 
 ghost use Rattle.std.specs.Prelude.{◌≡◌, ◌≤◌, ℕ, List, length, IfSome, IfNone};
+ghost use Rattle.smore_base.specs.declared.limits.TheConstants.{CONTENT_BYTES};
 ghost use Rattle.marker_format.specs.declared.marker.Marker.{Marker};
 ghost use Rattle.marker_format.specs.declared.foot.Foot.{Foot};
 ghost use Rattle.marker_format.specs.declared.label.Label.{Label};
@@ -14,10 +15,10 @@ use crate::label::{LABEL_BYTES, Label, read_label, write_label};
 use crate::magic::are_zeros;
 use crate::marker::{MARKER_BYTES, Marker, read_marker, write_marker};
 use crate::tag::Tag;
-use smore_base::{write_bytes, write_u8, write_zeros};
+use smore_base::{BLOCK_BYTES, write_bytes, write_u8, write_zeros};
 
 /// Bytes of a block, as an index.
-const BLOCK: usize = 512;
+pub(crate) const BLOCK: usize = BLOCK_BYTES as usize;
 
 /// Writes the block that holds the marker.
 pub fn write_marker_block(marker: &Marker, out: &mut [u8])
@@ -52,7 +53,7 @@ pub fn write_label_block(label: &Label, out: &mut [u8])
 
 /// Writes the block that holds these bytes of a fragment, 511 at most.
 pub fn write_data_block(piece: &[u8], out: &mut [u8])
-    requires short { length piece.now ≤ 511 }
+    requires short { length piece.now ≤ CONTENT_BYTES }
     requires long { length out.old ≡ BLOCK }
     ensures { out.new ≡ data_block piece.now }
 {
@@ -63,7 +64,7 @@ pub fn write_data_block(piece: &[u8], out: &mut [u8])
 
 /// The text of so many bytes that the block holds under this tag.
 fn text_of(block: &[u8], tag: Tag, bytes: usize) -> Option<&[u8]>
-    requires { bytes ≤ 511 }
+    requires { bytes ≤ CONTENT_BYTES }
     ensures found { IfSome result (λ text. (length text.now ≡ bytes) × (block.now ≡ block_of tag text.now)) }
     ensures none { IfNone result ((text : List ℕ) → length text ≡ bytes → block.now ≡ block_of tag text → ⊥) }
 {

@@ -4,6 +4,7 @@
 
 mod block;
 mod foot;
+mod fragment;
 mod kind;
 mod label;
 mod laws;
@@ -16,6 +17,7 @@ pub use block::{
     write_label_block, write_marker_block,
 };
 pub use foot::{FOOT_BYTES, Foot, read_foot, write_foot};
+pub use fragment::{blocks_of, read_fragment, write_fragment, write_record};
 pub use kind::Kind;
 pub use label::{LABEL_BYTES, Label, read_label, write_label};
 pub use laws::{

@@ -7,8 +7,8 @@ ghost use Rattle.marker_format.specs.Marker.{IsMarker, fields_of, bytes_of_name,
 use crate::Kind;
 use crate::magic::{are_zeros, has_frame};
 use smore_base::{
-    MAX_FRAGMENTS, MAX_NAME_BYTES, MAX_RECORDS, MAX_SHARD_BYTES, Name, read_bytes, read_u8,
-    read_u16, read_u32, read_u64, write_bytes, write_u8, write_u16, write_u32, write_u64,
+    MAX_FRAGMENTS, MAX_NAME_BYTES, MAX_RECORDS, MAX_SHARD_BYTES, Name, copied_name, read_bytes,
+    read_u8, read_u16, read_u32, read_u64, write_bytes, write_u8, write_u16, write_u32, write_u64,
     write_zeros,
 };
 
@@ -52,6 +52,29 @@ pub struct Marker {
 }
 
 impl Marker {
+    /// The marker of the same record in the zone of another index. Takes no memory.
+    pub fn at_index(&self, index: u8) -> Marker
+        ensures { result ≡ record self.now { index = index } }
+    {
+        Marker {
+            kind: self.kind,
+            index,
+            k: self.k,
+            n: self.n,
+            set: self.set,
+            position: self.position,
+            fragment: self.fragment,
+            stamp: self.stamp,
+            upload: self.upload,
+            part: self.part,
+            parts: self.parts,
+            length: self.length,
+            payload: self.payload,
+            array: self.array,
+            name: copied_name(&self.name),
+        }
+    }
+
     /// Whether each field keeps its limits, and is 0 where the kind doesn't use it.
     #[tactic(auto, unfolding(crate::specs::Marker::is_well_formed))]
     pub fn is_well_formed(&self) -> bool

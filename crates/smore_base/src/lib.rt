@@ -10,6 +10,8 @@ mod limits;
 mod memory;
 mod name;
 mod name_list;
+mod place;
+mod room;
 
 pub use big_endian::{
     read_bytes, read_u8, read_u16, read_u32, read_u64, write_bytes, write_u8, write_u16, write_u32,
@@ -23,8 +25,10 @@ pub use limits::{
     MAX_RECORDS, MAX_SHARD_BYTES, MAX_ZONES, MIN_BLOCKS, MIN_ZONES,
 };
 pub use memory::Memory;
-pub use name::{Name, NameBad};
+pub use name::{Name, NameBad, copied_name};
 pub use name_list::NameList;
+pub use place::Place;
+pub use room::{closing, digest_records, record_blocks};
 
 #[cfg(test)]
 mod tests;

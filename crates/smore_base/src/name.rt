@@ -51,4 +51,23 @@ impl Name {
     {
         &self.inline[..self.length]
     }
+    /// The same name. Takes no memory.
+    pub fn copied(&self) -> Name
+        ensures { result ≡ self.now }
+    {
+        Name {
+            inline: self.inline,
+            length: self.length,
+        }
+    }
+}
+
+/// The same name, where there is one. Takes no memory.
+pub fn copied_name(name: &Option<Name>) -> Option<Name>
+    ensures { result ≡ name.now }
+{
+    match name {
+        Some(name) => Some(name.copied()),
+        None => None,
+    }
 }

@@ -23,7 +23,7 @@ use Rattle.object_machine.specs.State.{State, Step, IsLost}
 use Rattle.store_core.specs.declared.store.Core.{Core}
 use Rattle.store_core.specs.declared.index.Index.{Index}
 use Rattle.store_core.specs.declared.zone.OpenZone.{OpenZone}
-use Rattle.store_core.specs.Blocks.{blocks_of}
+use Rattle.marker_format.specs.Fragment.{blocks_of}
 use Rattle.store_core.specs.Extent.{extents_of, mapped}
 use Rattle.store_core.specs.Index.{notes_in, parts_in, extent_in, extents_in}
 use Rattle.store_core.specs.DeviceCalls.{Appends}

@@ -22,7 +22,8 @@ use Rattle.store_core.specs.declared.zone.OpenZone.{OpenZone}
 use Rattle.store_core.specs.Extent.{Extents, extents_of}
 use Rattle.store_core.specs.Index.{notes_in, parts_in, extent_in, extents_in}
 use Rattle.store_core.specs.OpenZone.{behind}
-use Rattle.store_core.specs.Records.{IsPlace, delete_marker, record_bytes}
+use Rattle.store_core.specs.Records.{IsPlace, delete_marker}
+use Rattle.marker_format.specs.Fragment.{record_bytes}
 use Rattle.store_core.specs.Said.{Says}
 use Rattle.store_core.specs.Held.{used, IsHeld}
 use Rattle.store_core.specs.Store.{MayAppend, note_load}

@@ -9,7 +9,8 @@ use Rattle.marker_format.specs.Marker.{IsMarker}
 use Rattle.marker_format.specs.Block.{marker_block}
 use Rattle.marker_format.specs.Zone.{Array}
 use Rattle.marker_format.proofs.BlockLaws.{length-marker_block}
-use Rattle.store_core.specs.Records.{IsPlace, next_place, record_bytes}
+use Rattle.store_core.specs.Records.{IsPlace, next_place}
+use Rattle.marker_format.specs.Fragment.{record_bytes}
 use Rattle.store_core.specs.Zone.{first_place, first_head, first_ready, opening_bytes}
 use Rattle.store_core.specs.Opening.{BeginsSet}
 use Rattle.store_core.proofs.OwnMarkers.{head_is, ready_is}

@@ -15,7 +15,7 @@ use Rattle.array_model.specs.Record.{Record, is_ready}
 use Rattle.array_model.specs.Reading.{Carrier, records_from, are_closed, read_of}
 use Rattle.array_model.specs.Sets.{ValidSet, placed, kept_by, cut_to}
 use Rattle.array_model.specs.Map.{items_of, map_by, map_of}
-use Rattle.store_core.specs.Records.{record_bytes}
+use Rattle.marker_format.specs.Fragment.{record_bytes}
 use Rattle.store_core.specs.Zone.{first_head, first_ready, first_markers, opening_bytes}
 use Rattle.store_core.specs.Opening.{BeginsSet, HoldsSet, IsAlone}
 use Rattle.store_core.proofs.FirstSet.{first_head-is, first_ready-is, length-opening_bytes}

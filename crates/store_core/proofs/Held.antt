@@ -14,7 +14,7 @@ use Rattle.marker_format.specs.Kind.{kind_of, code_of}
 use Rattle.marker_format.specs.Zone as zone
 use Rattle.marker_format.specs.Zone.{Array, has_kind, end_from, whole_records, Stand, belongs}
 use Rattle.array_model.specs.Drives.{label_on}
-use Rattle.array_model.specs.Payload.{fragment_at}
+use Rattle.marker_format.specs.Fragment.{fragment_at}
 use Rattle.array_model.specs.Record.{Record, is_ready}
 use Rattle.array_model.specs.Reading.{Carrier, record_by, records_from, are_closed, read_of}
 use Rattle.array_model.specs.Map.{value_of, map_of}

@@ -11,7 +11,7 @@ use Rattle.marker_format.specs.declared.marker.Marker.{Marker}
 use Rattle.marker_format.specs.Kind.{kind_of, code_of}
 use Rattle.marker_format.specs.Zone as zone
 use Rattle.marker_format.specs.Zone.{Array, Stand, has_kind}
-use Rattle.array_model.specs.Payload.{fragment_at}
+use Rattle.marker_format.specs.Fragment.{fragment_at, blocks_of}
 use Rattle.array_model.specs.Record.{Record, Head, Ready, Part as PartRecord, Put, Delete, Cut, Digest, Snapshot, note_stamp, payload_of}
 use Rattle.array_model.specs.Reading.{record_by}
 use Rattle.array_model.specs.Map.{newest, later_note, is_less, part_of, or_else as payload_or, joined, parts_from, object_by, object_of, said_by as value_said, value_of}
@@ -19,7 +19,6 @@ use Rattle.store_core.specs.declared.extent.Extent.TheVariants.{Sized, Broken as
 use Rattle.store_core.specs.declared.index.Note.{Note}
 use Rattle.store_core.specs.declared.index.Part.{Part}
 use Rattle.store_core.specs.declared.index.Index.{Index}
-use Rattle.store_core.specs.Blocks.{blocks_of}
 use Rattle.store_core.specs.Extent.{extent_of}
 use Rattle.store_core.specs.Index.{notes_in, parts_in, added, bytes_from, extent_by, sizes_in, extent_in}
 use Rattle.store_core.specs.Said.{said, note_read, part_at, or_else, part_from, Says}

@@ -1,6 +1,6 @@
 pub mod AppendSteps
 pub mod BlankZones
-pub mod BlockLaws
+pub mod ToldFragments
 pub mod CallSteps
 pub mod CoreSteps
 pub mod StoreMoves

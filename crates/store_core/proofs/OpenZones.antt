@@ -15,10 +15,9 @@ use Rattle.marker_format.specs.Zone.{Array, block_at, blocks_of, end_from, has_k
 use Rattle.marker_format.specs.Laws.{Fill, MayFollow}
 use Rattle.marker_format.proofs.BlockLaws.{marker_in_block-is, length-marker_block}
 use Rattle.marker_format.proofs.ZoneLaws.{Begin-begun, begun-full, Fill-appended, whole_records-first}
-use Rattle.store_core.specs.Blocks.{fragment_blocks}
-use Rattle.store_core.specs.Records.{record_bytes}
+use Rattle.marker_format.specs.Fragment.{fragment_blocks, record_bytes}
 use Rattle.store_core.specs.Opening.{IsOpenZone}
-use Rattle.store_core.proofs.BlockLaws.{length-blocks_from}
+use Rattle.marker_format.proofs.FragmentLaws.{length-blocks_from}
 use Rattle.store_core.proofs.SaidLaws.{and_true}
 use Rattle.store_core.proofs.OpenRecords.{any_added}
 

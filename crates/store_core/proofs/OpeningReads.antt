@@ -22,7 +22,7 @@ use Rattle.store_core.specs.Opening.{BeginsSet, HoldsSet, CanOpen, CanNotOpen}
 use Rattle.store_core.specs.Zone.{opening_bytes}
 use Rattle.store_core.specs.Stopped.{RecoversTo, Keeps, MayStop}
 use Rattle.store_core.specs.Core.{map_in, array_in, bay_of, told_store, WritesZone, Goes, Begins, Serves, FailsBeginning, Refuses, Opens, objects_held}
-use Rattle.store_core.proofs.CoreSteps.{if_some, if_all, writes_nothing}
+use Rattle.store_core.proofs.CoreSteps.{if_some, if_all}
 use Rattle.store_core.proofs.Stops.{stops_reading}
 
 -- the zone stayed before it was written

@@ -1,5 +1,5 @@
 -- What an opening does: calls that only read, and then nothing more, or the records with which a set begins.
-use Rattle.std.proofs.Common.{◌≡◌, ◌⊎◌, inl, inr, ℕ, ◌*◌, ◌<◌, true, false, List, [], ◌++◌, length, take, drop, Option, Some, None, IfSome, is_some, Result, Ok, Err, refl, sym, ap, subst, ◌∙◌}
+use Rattle.std.proofs.Common.{◌≡◌, ◌⊎◌, inl, inr, ℕ, ◌*◌, ◌<◌, true, false, List, [], ◌++◌, length, drop, Option, Some, None, IfSome, is_some, Result, Ok, Err, refl, sym, ap, subst, ◌∙◌}
 use Rattle.std.specs.Prelude.{◌==◌, not, option_map, unwrap_or, IsSome}
 use Rattle.std.specs.Result.{is_err, IsErr}
 use Rattle.std.specs.List.{list_any}
@@ -33,7 +33,7 @@ use Rattle.store_core.specs.Opening.{array_by, BeginsSet, HoldsSet, CanOpen}
 use Rattle.store_core.specs.Found.{IsLabelled, IsRead, IsFound, IsOpening}
 use Rattle.store_core.specs.Stopped.{Keeps}
 use Rattle.store_core.specs.Core.{map_in, array_in, is_lost_in, standing_of, store_over, Serves, objects_held}
-use Rattle.store_core.proofs.CoreSteps.{if_some, if_all, has_drives, has_zones, goes_without, writes_appended}
+use Rattle.store_core.proofs.CoreSteps.{if_some, has_drives, has_zones, goes_without, writes_appended}
 use Rattle.store_core.proofs.FirstZone.{first_whole, first_holds, part_whole, map_part, map_first, each_gives}
 use Rattle.store_core.proofs.FirstSet.{length-opening_bytes}
 use Rattle.store_core.proofs.Held.{alone_with, label_with}

@@ -9,7 +9,7 @@ use borrow.Rule.Slice.PartMut.{put_mid}
 use Rattle.smore_base.specs.Objects.{Whole, Broken}
 use Rattle.marker_format.specs.declared.marker.Marker.{Marker}
 use Rattle.marker_format.specs.Zone.{Array, Stand}
-use Rattle.array_model.specs.Payload.{fragment_at}
+use Rattle.marker_format.specs.Fragment.{fragment_at}
 use Rattle.array_model.specs.Map.{part_of, joined, parts_from, object_by, object_of}
 use Rattle.store_core.specs.declared.extent.Extent.TheVariants.{Sized, Broken as BrokenExtent}
 use Rattle.store_core.specs.declared.index.Note.{Note}
@@ -18,7 +18,7 @@ use Rattle.store_core.specs.declared.index.Index.{Index}
 use Rattle.store_core.specs.Index.{Parts, parts_in, added, bytes_from, extent_by, sizes_in, extent_in}
 use Rattle.store_core.specs.Said.{Says}
 use Rattle.store_core.specs.Get.{part_in, parts_at, AllLieIn}
-use Rattle.store_core.proofs.BlockLaws.{fragment_at-front}
+use Rattle.marker_format.proofs.FragmentLaws.{fragment_at-front}
 use Rattle.store_core.proofs.Extents.{plus, IsSoFar, unrolled}
 use Rattle.store_core.proofs.ZoneItems.{items_from}
 use Rattle.store_core.proofs.HeldItems.{payload_in, part_found, sized, sizes_found, found_lies}

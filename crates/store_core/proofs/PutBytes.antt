@@ -11,7 +11,8 @@ use Rattle.rs_code.specs.Fragments.{IsFragment}
 use Rattle.marker_format.specs.Marker.{IsMarker}
 use Rattle.store_core.specs.declared.zone.Load.{Load}
 use Rattle.store_core.specs.declared.records.RecordPlace.{RecordPlace}
-use Rattle.store_core.specs.Records.{IsPlace, HasPlaces, IsStamp, part_marker, put_marker, next_place, record_bytes, put_bytes}
+use Rattle.store_core.specs.Records.{IsPlace, HasPlaces, IsStamp, part_marker, put_marker, next_place, put_bytes}
+use Rattle.marker_format.specs.Fragment.{record_bytes}
 use Rattle.store_core.specs.Store.{put_load, note_load}
 use Rattle.store_core.proofs.OwnMarkers.{part_is, put_is}
 use Rattle.store_core.proofs.OneSource.{IsOne, is_none, is_part, parts_are, fragment_is_payload}

@@ -25,11 +25,11 @@ use Rattle.store_core.specs.declared.index.Part.{Part}
 use Rattle.store_core.specs.declared.index.Index.{Index}
 use Rattle.store_core.specs.declared.zone.Load.{Load}
 use Rattle.store_core.specs.declared.zone.OpenZone.{OpenZone}
-use Rattle.store_core.specs.Blocks.{blocks_of}
+use Rattle.marker_format.specs.Fragment.{blocks_of, record_bytes}
 use Rattle.store_core.specs.Extent.{Extents, extents_of}
 use Rattle.store_core.specs.Index.{notes_in, parts_in, note_of, with_part_of}
 use Rattle.store_core.specs.OpenZone.{behind}
-use Rattle.store_core.specs.Records.{HasPlaces, IsStamp, next_place, part_marker, put_marker, record_bytes, put_bytes}
+use Rattle.store_core.specs.Records.{HasPlaces, IsStamp, next_place, part_marker, put_marker, put_bytes}
 use Rattle.store_core.specs.Sound.{IsSoundPart}
 use Rattle.store_core.specs.Said.{Says}
 use Rattle.store_core.specs.Held.{used, IsHeld}

@@ -15,19 +15,17 @@ use Rattle.marker_format.specs.Laws.{Fill, MayFollow}
 use Rattle.marker_format.proofs.BlockLaws.{length-marker_block}
 use Rattle.array_model.specs.Drives.{label_on}
 use Rattle.array_model.specs.Kept.{label_of}
-use Rattle.array_model.specs.Payload.{fragment_at}
+use Rattle.marker_format.specs.Fragment.{fragment_at, fragment_blocks, record_bytes}
 use Rattle.array_model.specs.Record.{Record}
 use Rattle.array_model.specs.Reading.{record_by}
 use Rattle.store_core.specs.declared.index.Index.{Index}
 use Rattle.store_core.specs.declared.zone.OpenZone.{OpenZone}
-use Rattle.store_core.specs.Blocks.{fragment_blocks}
 use Rattle.store_core.specs.OpenZone.{behind}
 use Rattle.store_core.specs.Opening.{IsAlone}
-use Rattle.store_core.specs.Records.{record_bytes}
 use Rattle.store_core.specs.Said.{Says}
 use Rattle.store_core.specs.Zone.{set_of, index_of, counter_of, next_stamp}
 use Rattle.store_core.specs.Held.{used, IsHeld}
-use Rattle.store_core.proofs.BlockLaws.{fragment_at-end}
+use Rattle.marker_format.proofs.FragmentLaws.{fragment_at-end}
 use Rattle.store_core.proofs.OpenRecords.{any_added, stamp_added}
 use Rattle.store_core.proofs.OpenZones.{IsFilled, open_filled, filled_whole, filled_added, may_follow, length-record}
 use Rattle.store_core.proofs.ZoneItems.{items_from, own_fragment, items-front, items-added}

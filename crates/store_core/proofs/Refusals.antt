@@ -1,13 +1,13 @@
 -- What an opening leaves in which a call on drive 0 failed while a set was begun.
-use Rattle.std.proofs.Common.{◌≡◌, ◌⊎◌, inl, inr, ℕ, ◌<◌, ◌≤◌, List, [], length, take, drop, Option, Some, None, IfSome, is_some, true, Result, Ok, Err, refl, sym, ap, subst, ◌∙◌, arith}
-use Rattle.std.specs.Prelude.{option_map, unwrap_or, IsSome}
+use Rattle.std.proofs.Common.{◌≡◌, inl, inr, ℕ, ◌<◌, List, [], length, drop, Option, Some, None, IfSome, is_some, true, Result, Ok, Err, refl, sym, ap, subst, ◌∙◌, arith}
+use Rattle.std.specs.Prelude.{unwrap_or, IsSome}
 use Rattle.std.specs.Result.{is_err}
 use Rattle.std.specs.FinMap as finmap
 use Rattle.std.proofs.lemmas.List.{take_all}
 use Rattle.smore_base.specs.Told.{Told}
 use Rattle.smore_base.specs.Objects.{Map}
 use Rattle.zone_bay.specs.Contents.{Contents, Lengths, appended}
-use Rattle.zone_bay.specs.Images.{Between, ImageOf, IsImage}
+use Rattle.zone_bay.specs.Images.{ImageOf, IsImage}
 use Rattle.zone_bay.specs.Laws.{NoMoreFirm}
 use Rattle.zone_bay.specs.Bay.{BayState, IsSound, IsImageNow}
 use Rattle.zone_bay.specs.Stretch.{GoesToward, IsOnTheWay}

@@ -15,11 +15,11 @@ use Rattle.marker_format.specs.Kind.{kind_of}
 use Rattle.marker_format.specs.Marker.{IsMarker}
 use Rattle.marker_format.specs.Zone as zone
 use Rattle.marker_format.specs.Zone.{Array, IsWhole, Stand, end_from, belongs}
-use Rattle.array_model.specs.Payload.{Fragment, interpolated, byte_of, fragment_from, payload_from, fragment_at}
+use Rattle.array_model.specs.Payload.{Fragment, interpolated, byte_of, fragment_from, payload_from}
+use Rattle.marker_format.specs.Fragment.{fragment_at, blocks_of}
 use Rattle.array_model.specs.Reading.{Carrier, record_by, records_from, payload_of, fragment_on}
 use Rattle.array_model.specs.Record.{Record}
-use Rattle.store_core.specs.Blocks.{blocks_of}
-use Rattle.store_core.proofs.BlockLaws.{content_from, fragment_at-front, fragment_read}
+use Rattle.marker_format.proofs.FragmentLaws.{content_from, fragment_at-front, fragment_read}
 use Rattle.store_core.proofs.SaidLaws.{one_source}
 
 -- ---- a payload of one fragment

@@ -15,7 +15,7 @@ use Rattle.store_core.specs.declared.opening.Found.{Found}
 use Rattle.store_core.specs.declared.opening.Found.TheVariants.{Begins, Holds}
 use Rattle.store_core.specs.declared.opening.Opening.{Opening}
 use Rattle.store_core.specs.declared.zone_records.ZoneRecords.{ZoneRecords}
-use Rattle.store_core.specs.Blocks.{blocks_of}
+use Rattle.marker_format.specs.Fragment.{blocks_of}
 use Rattle.store_core.specs.Label.{IsOfBay}
 use Rattle.store_core.specs.ZoneRecords.{HasRead}
 use Rattle.store_core.specs.Opening.{array_by, BeginsSet, HoldsSet, IsAlone}

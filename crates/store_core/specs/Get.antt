@@ -2,9 +2,8 @@
 use Rattle.std.specs.Prelude.{◌≡◌, ℕ, zero, suc, ◌+◌, ◌*◌, ◌≤◌, List, [], ◌++◌, length, Option, Some, None}
 use Rattle.std.specs.FinMap as finmap
 use Rattle.smore_base.specs.declared.limits.TheConstants.{BLOCK_BYTES}
-use Rattle.array_model.specs.Payload.{fragment_at}
+use Rattle.marker_format.specs.Fragment.{fragment_at, blocks_of}
 use Rattle.store_core.specs.declared.index.Part.{Part}
-use Rattle.store_core.specs.Blocks.{blocks_of}
 use Rattle.store_core.specs.Index.{Parts}
 
 -- the bytes of a part

@@ -1,4 +1,3 @@
-pub mod Blocks
 pub mod Label
 pub mod DeviceCalls
 pub mod Format

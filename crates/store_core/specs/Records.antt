@@ -6,9 +6,8 @@ use Rattle.marker_format.specs.declared.kind.Kind.{Kind}
 use Rattle.marker_format.specs.declared.kind.Kind.TheVariants.{Part, Put, Delete}
 use Rattle.marker_format.specs.declared.marker.Marker.{Marker}
 use Rattle.marker_format.specs.Kind.{code_of}
-use Rattle.marker_format.specs.Block.{marker_block}
+use Rattle.marker_format.specs.Fragment.{record_bytes}
 use Rattle.store_core.specs.declared.records.RecordPlace.{RecordPlace}
-use Rattle.store_core.specs.Blocks.{fragment_blocks}
 
 -- a marker without what only some kinds have
 abbrev pub plain_marker : RecordPlace → Kind → Marker
@@ -45,10 +44,6 @@ put_marker place stamp bytes name = record (plain_marker place Put) { stamp = st
 -- the note of a delete
 abbrev pub delete_marker : RecordPlace → ℕ → List ℕ → Marker
 delete_marker place stamp name = record (plain_marker place Delete) { stamp = stamp; name = Some name }
-
--- a record's blocks
-abbrev pub record_bytes : Marker → List ℕ → List ℕ
-record_bytes m fragment = marker_block m ++ fragment_blocks fragment
 
 -- the records of a put: its note, and in front of it a part, where it has bytes
 abbrev pub put_bytes : RecordPlace → ℕ → List ℕ → List ℕ → List ℕ

@@ -8,7 +8,7 @@ use Rattle.marker_format.specs.Zone as zone
 use Rattle.store_core.specs.declared.index.Note.{Note}
 use Rattle.store_core.specs.declared.index.Part.{Part}
 use Rattle.store_core.specs.declared.index.Index.{Index}
-use Rattle.store_core.specs.Blocks.{blocks_of}
+use Rattle.marker_format.specs.Fragment.{blocks_of}
 use Rattle.store_core.specs.Index.{notes_in, parts_in}
 
 -- a part of an upload below this stamp lies within so many blocks, and has a shard's bytes at most

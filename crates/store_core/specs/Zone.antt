@@ -6,7 +6,8 @@ use Rattle.marker_format.specs.declared.marker.Marker.{Marker}
 use Rattle.marker_format.specs.Zone.{Array, has_kind, end_from, whole_records}
 use Rattle.store_core.specs.declared.store.TheConstants.{FIRST_SET}
 use Rattle.store_core.specs.declared.records.RecordPlace.{RecordPlace}
-use Rattle.store_core.specs.Records.{plain_marker, next_place, record_bytes}
+use Rattle.store_core.specs.Records.{plain_marker, next_place}
+use Rattle.marker_format.specs.Fragment.{record_bytes}
 use Rattle.store_core.specs.Store.{Standing}
 
 -- the set of the first of some records

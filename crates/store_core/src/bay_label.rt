@@ -1,4 +1,5 @@
 ghost use Rattle.std.specs.Prelude.{◌≡◌, ◌<◌, length, take, MatchOption, IfSome, IfOk, IsTrue};
+ghost use Rattle.smore_base.specs.declared.limits.TheConstants.{BLOCK_BYTES};
 ghost use Rattle.smore_base.specs.Geometry.{IsWithinLimits};
 ghost use Rattle.marker_format.specs.Label.{IsLabel};
 ghost use Rattle.array_model.specs.Drives.{is_label_of_bay, label_on};
@@ -33,8 +34,8 @@ fn first_block<B: Bay>(bay: &mut B, device: u8) -> Result<Option<[u8; BLOCK]>, F
     requires device_in { device < (B.state bay.old).shape.devices }
     requires zone_in { 0 < (B.state bay.old).shape.zones }
     ensures block { IfSome (B.state bay.old).contents (λ held. IfOk result (λ block. MatchOption block
-        (length (held device 0) < 512)
-        (λ bytes. bytes ≡ take 512 (held device 0)))) }
+        (length (held device 0) < BLOCK_BYTES)
+        (λ bytes. bytes ≡ take BLOCK_BYTES (held device 0)))) }
     ensures reads { ReadsOn device (B.state bay.old) (B.state bay.new) result }
 {
     if bay.written(device, 0)? < BLOCK_BYTES {
@@ -58,7 +59,7 @@ fn first_label<B: Bay>(bay: &mut B, device: u8) -> Result<Option<Label>, Failed>
     requires device_in { device < (B.state bay.old).shape.devices }
     requires zone_in { 0 < (B.state bay.old).shape.zones }
     ensures label { IfSome (B.state bay.old).contents
-        (λ held. IfOk result (λ label. label ≡ label_in (take 512 (held device 0)))) }
+        (λ held. IfOk result (λ label. label ≡ label_in (take BLOCK_BYTES (held device 0)))) }
     ensures fits { IfOk result (λ label. IfSome label IsLabel) }
     ensures reads { ReadsOn device (B.state bay.old) (B.state bay.new) result }
 {

@@ -4,10 +4,10 @@ ghost use Rattle.object_machine.specs.declared.op.Op.TheVariants.{Delete};
 ghost use Rattle.store_core.specs.Store.{MayDelete};
 
 use crate::append::refused;
-use crate::records::write_record;
 use crate::store::Core;
 use crate::zone::Load;
 use crate::zone_calls::append_firm;
+use marker_format::write_record;
 use object_machine::{Refusal, Reply};
 use smore_base::{Bytes, Name, NameBad};
 use zone_bay::Bay;

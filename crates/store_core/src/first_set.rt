@@ -5,13 +5,13 @@ ghost use Rattle.store_core.specs.Zone.{first_place, first_markers, opening_byte
 ghost use Rattle.store_core.specs.ZoneRecords.{HasRead};
 ghost use Rattle.store_core.specs.Opening.{array_by, BeginsSet};
 
-use crate::records::{RecordPlace, write_record};
+use crate::records::RecordPlace;
 use crate::said::Said;
 use crate::store::{DRIVE, FIRST_SET, ZONE};
 use crate::zone::OpenZone;
 use crate::zone_calls::append_firm;
 use crate::zone_records::ZoneRecords;
-use marker_format::{Kind, Label};
+use marker_format::{Kind, Label, write_record};
 use smore_base::BLOCK_BYTES;
 use std::alloc::Global;
 use zone_bay::{Bay, Failed};

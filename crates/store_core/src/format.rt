@@ -1,4 +1,5 @@
 ghost use Rattle.std.specs.Prelude.{◌≡◌, ◌≢◌, ℕ, ◌*◌, ◌<◌, ◌≤◌, [], length, IfSome, IfErr, OnOk};
+ghost use Rattle.smore_base.specs.declared.limits.TheConstants.{BLOCK_BYTES};
 ghost use Rattle.smore_base.specs.Geometry.{IsWithinLimits};
 ghost use Rattle.smore_base.specs.Told.{Told};
 ghost use Rattle.zone_bay.specs.Outside.{Rose};
@@ -61,7 +62,7 @@ fn empty_device<B: Bay>(bay: &mut B, device: u8) -> Result<(), Failed>
 fn begin_device<B: Bay>(bay: &mut B, device: u8, block: &[u8]) -> Result<(), Failed>
     requires device_in { device < (B.state bay.old).shape.devices }
     requires zone_in { 0 < (B.state bay.old).shape.zones }
-    requires fits { length block.now ≤ 512 * (B.state bay.old).shape.blocks }
+    requires fits { length block.now ≤ BLOCK_BYTES * (B.state bay.old).shape.blocks }
     requires empty { IfSome (B.state bay.old).contents (λ held. held device 0 ≡ []) }
     ensures ok { OnOk result (Told (B.state bay.old).contents (B.state bay.new).contents (ZoneHolds device 0 block.now)) }
     ensures firm { OnOk result (IsFirmOn device (B.state bay.new)) }
@@ -76,7 +77,7 @@ fn begin_device<B: Bay>(bay: &mut B, device: u8, block: &[u8]) -> Result<(), Fai
 fn format_device<B: Bay>(bay: &mut B, device: u8, block: &[u8]) -> Result<(), Failed>
     requires device_in { device < (B.state bay.old).shape.devices }
     requires zone_in { 0 < (B.state bay.old).shape.zones }
-    requires fits { length block.now ≤ 512 * (B.state bay.old).shape.blocks }
+    requires fits { length block.now ≤ BLOCK_BYTES * (B.state bay.old).shape.blocks }
     ensures ok { OnOk result (Told (B.state bay.old).contents (B.state bay.new).contents (DeviceHolds device (B.state bay.old).shape.zones block.now)) }
     ensures firm { OnOk result (IsFirmOn device (B.state bay.new)) }
     ensures kept { KeepsFirm device (B.state bay.old) (B.state bay.new) }

@@ -1,6 +1,6 @@
 ghost use Rattle.std.specs.Prelude.{◌≡◌, ◌⊎◌, ◌<◌, ◌≤◌, ◌+◌, ◌*◌, ◌↔◌, length, IfSome, IfOk, IsErr, IsTrue, MatchOption, false};
 ghost use Rattle.store_core.specs.declared.opening.Fault.TheVariants as faults;
-ghost use Rattle.store_core.specs.Blocks.{blocks_of};
+ghost use Rattle.marker_format.specs.Fragment.{blocks_of};
 ghost use Rattle.store_core.specs.DeviceCalls.{ReadsOn, ReadsAny};
 ghost use Rattle.store_core.specs.Opening.{array_by, IsBlankFrom, IsAlone, BeginsSet, HoldsSet, CanNotOpen};
 ghost use Rattle.store_core.specs.Found.{IsLost, IsOne, Fits, FitsZone, FitsFound, IsLabelled, IsRead, IsFound, IsOpening};

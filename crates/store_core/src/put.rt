@@ -1,5 +1,5 @@
 ghost use Rattle.std.specs.Prelude.{◌≡◌, ℕ, ◌*◌, ◌≤◌, ◌≢◌, List, length, take, true};
-ghost use Rattle.smore_base.specs.declared.limits.TheConstants.{BLOCK_BYTES};
+ghost use Rattle.smore_base.specs.declared.limits.TheConstants.{BLOCK_BYTES, MAX_SHARD_BYTES};
 ghost use Rattle.smore_base.specs.Name.{IsName};
 ghost use Rattle.object_machine.specs.Coding.{IsMadeFor, IsCodedFor};
 ghost use Rattle.object_machine.specs.declared.op.Op.TheVariants.{Put};
@@ -7,12 +7,12 @@ ghost use Rattle.store_core.specs.Records.{HasPlaces, IsStamp, put_bytes};
 ghost use Rattle.store_core.specs.Store.{put_load, MayPut};
 
 use crate::append::refused;
-use crate::blocks::blocks_of;
 use crate::index::Part;
-use crate::records::{RecordPlace, write_record};
+use crate::records::RecordPlace;
 use crate::store::Core;
 use crate::zone::Load;
 use crate::zone_calls::append_firm;
+use marker_format::{blocks_of, write_record};
 use object_machine::{Refusal, Reply};
 use rs_code::Blob;
 use smore_base::{Bytes, Name, NameBad};
@@ -40,7 +40,7 @@ fn write_put(place: RecordPlace, stamp: u64, name: Name, object: &Blob, out: &mu
     requires stamp { IsStamp stamp }
     requires name { IsName name }
     requires coded { IsCodedFor (record { k = 1; p = 1; shard = object.now.shard }) object.now }
-    requires small { (length object.now.bytes ≤ object.now.shard) × (object.now.shard ≤ 65408) }
+    requires small { (length object.now.bytes ≤ object.now.shard) × (object.now.shard ≤ MAX_SHARD_BYTES) }
     requires room { BLOCK_BYTES * (put_load (length object.now.bytes)).blocks ≤ length out.old }
     ensures end { result ≡ BLOCK_BYTES * (put_load (length object.now.bytes)).blocks }
     ensures written { take result out.new ≡ put_bytes place stamp name object.now.bytes }

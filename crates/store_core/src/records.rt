@@ -1,11 +1,7 @@
-//! The records of a step: their markers, and their blocks.
-ghost use Rattle.std.specs.Prelude.{◌≡◌, ◌+◌, ◌*◌, ◌<◌, ◌≤◌, ◌^◌, ◌++◌, length, drop};
-ghost use Rattle.marker_format.specs.Marker.{IsMarker};
-ghost use Rattle.store_core.specs.Blocks.{blocks_of};
-ghost use Rattle.store_core.specs.Records.{record_bytes};
+//! The records of a step: their markers.
+ghost use Rattle.std.specs.Prelude.{◌≡◌, ◌+◌, ◌<◌, ◌^◌};
 
-use crate::blocks::{BLOCK, CONTENT, write_fragment};
-use marker_format::{Kind, Marker, write_marker_block};
+use marker_format::{Kind, Marker};
 use smore_base::Name;
 
 /// Where a record goes: its set and index, how many records stand before it, and the array.
@@ -92,17 +88,4 @@ impl RecordPlace {
             array: self.array,
         }
     }
-}
-
-/// Writes the blocks of a record at the front, and answers how many bytes they are.
-pub(crate) fn write_record(marker: &Marker, fragment: &[u8], out: &mut [u8]) -> usize
-    requires marker { IsMarker marker.now }
-    requires room { 512 * (1 + blocks_of (length fragment.now)) ≤ length out.old }
-    ensures end { result ≡ 512 * (1 + blocks_of (length fragment.now)) }
-    ensures written { out.new ≡ record_bytes marker.now fragment.now ++ drop result out.old }
-{
-    write_marker_block(marker, &mut out[..BLOCK]);
-    let end = BLOCK + BLOCK * fragment.len().div_ceil(CONTENT);
-    write_fragment(fragment, &mut out[BLOCK..end]);
-    end
 }

@@ -3,7 +3,7 @@ ghost use Rattle.smore_base.specs.declared.limits.TheConstants.{BLOCK_BYTES};
 ghost use Rattle.smore_base.specs.Geometry.{IsWithinLimits};
 ghost use Rattle.marker_format.specs.declared.marker.TheConstants.{COUNTER_END};
 ghost use Rattle.object_machine.specs.Coding.{IsMadeFor};
-ghost use Rattle.store_core.specs.Blocks.{blocks_of};
+ghost use Rattle.marker_format.specs.Fragment.{blocks_of};
 ghost use Rattle.store_core.specs.Label.{IsOfBay};
 ghost use Rattle.store_core.specs.OpenZone.{IsOfSet};
 ghost use Rattle.store_core.specs.Sound.{IsSoundIndex};

@@ -1,12 +1,12 @@
 //! Calls on the store's zone.
 ghost use Rattle.std.specs.Prelude.{◌≡◌, ◌+◌, ◌*◌, ◌^◌, ◌<◌, ◌≤◌, length, IfSome, OnOk};
 ghost use Rattle.smore_base.specs.declared.limits.TheConstants.{BLOCK_BYTES};
-ghost use Rattle.array_model.specs.Payload.{fragment_at};
-ghost use Rattle.store_core.specs.Blocks.{blocks_of};
+ghost use Rattle.marker_format.specs.Fragment.{fragment_at, blocks_of};
 ghost use Rattle.store_core.specs.DeviceCalls.{ReadsOn, Appends};
 
-use crate::blocks::{BLOCK, CONTENT, read_fragment};
+use crate::blocks::{BLOCK, CONTENT};
 use crate::store::{DRIVE, ZONE};
+use marker_format::read_fragment;
 use zone_bay::{Bay, Failed};
 
 /// Puts the bytes at the end of the zone, and makes them firm.
@@ -14,7 +14,7 @@ pub(crate) fn append_firm<B: Bay>(bay: &mut B, bytes: &[u8]) -> Result<(), Faile
     requires drive { DRIVE < (B.state bay.old).shape.devices }
     requires zone { ZONE < (B.state bay.old).shape.zones }
     requires fits { IfSome (B.state bay.old).contents
-        (λ held. length (held DRIVE ZONE) + length bytes.now ≤ 512 * (B.state bay.old).shape.blocks) }
+        (λ held. length (held DRIVE ZONE) + length bytes.now ≤ BLOCK_BYTES * (B.state bay.old).shape.blocks) }
     ensures { Appends bytes.now (B.state bay.old) (B.state bay.new) result }
 {
     bay.append(DRIVE, ZONE, bytes)?;

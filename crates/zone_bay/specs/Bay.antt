@@ -1,5 +1,6 @@
 -- What a bay tells, and what each of its calls does to that.
 use Rattle.std.specs.Prelude.{◌≡◌, ◌≢◌, ◌⊎◌, ℕ, zero, suc, ◌+◌, ◌*◌, ◌≤◌, Bool, nat_lt, List, [], length, take, Option, option_map, unwrap_or, IfSome, Result, is_ok, IsErr, OnOk, OnErr, if◌then◌else◌}
+use Rattle.smore_base.specs.declared.limits.TheConstants.{BLOCK_BYTES}
 use Rattle.zone_bay.specs.Outside.{last, counted, HasCause}
 use Rattle.zone_bay.specs.Contents.{Shape, Contents, Lengths, appended, emptied, blanked}
 use Rattle.zone_bay.specs.Images.{ImageOf, flushed, still_firm, Instant, Between, During, moment_of}
@@ -35,7 +36,7 @@ pub record IsSound (bay : BayState) : Type 0 where
   -- no more is firm than is held
   pub firm_held : IfSome bay.contents (λ held. (d z : ℕ) → bay.firm d z ≤ length (held d z))
   -- a zone has room for its blocks and for no more
-  pub fits : IfSome bay.contents (λ held. (d z : ℕ) → length (held d z) ≤ 512 * bay.shape.blocks)
+  pub fits : IfSome bay.contents (λ held. (d z : ℕ) → length (held d z) ≤ BLOCK_BYTES * bay.shape.blocks)
   -- nothing is held outside the devices and their zones
   pub inside : IfSome bay.contents (λ held. (d z : ℕ) → (bay.shape.devices ≤ d) ⊎ (bay.shape.zones ≤ z) → held d z ≡ [])
   -- a crash now, before the next call, may leave each image of what is held

@@ -1,4 +1,5 @@
 ghost use Rattle.std.specs.Prelude.{◌≡◌, ◌+◌, ◌*◌, ◌<◌, ◌≤◌, length, IfSome, IfOk, OnOk};
+ghost use Rattle.smore_base.specs.declared.limits.TheConstants.{BLOCK_BYTES};
 ghost use Rattle.zone_bay.specs.Contents.{Reads};
 ghost use Rattle.zone_bay.specs.Bay.{BayState, IsSound, Written, Read, Append, Reset, Flush, Replace, Makes};
 
@@ -52,7 +53,7 @@ pub trait Bay {
         requires device_in { device < (state self.old).shape.devices }
         requires zone_in { zone < (state self.old).shape.zones }
         requires fits { IfSome (state self.old).contents
-            (λ held. length (held device zone) + length bytes.now ≤ 512 * (state self.old).shape.blocks) }
+            (λ held. length (held device zone) + length bytes.now ≤ BLOCK_BYTES * (state self.old).shape.blocks) }
         ensures call { Makes (Append device zone bytes.now) (state self.old) (state self.new) result };
 
     /// Empties the zone. Where it fails, the zone may be as it was or empty.

@@ -8,11 +8,11 @@ ghost use Rattle.zone_parse.specs.Walk.{records_behind, end_of, foot_at, trailer
 use crate::lost::Lost;
 use crate::walk::{Walk, blocks_of};
 use marker_format::{Foot, Kind, Marker, read_marker_block, write_foot_block};
-use smore_base::Geometry;
+use smore_base::{BLOCK_BYTES, Geometry};
 use zone_bay::Bay;
 
 /// Bytes of a block, as an index.
-const BLOCK: usize = 512;
+const BLOCK: usize = BLOCK_BYTES as usize;
 
 /// A zone, and what its records are to be like.
 #[derive(Clone, Copy, Debug)]

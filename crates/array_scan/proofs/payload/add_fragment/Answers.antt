@@ -2,7 +2,7 @@ use Rattle.std.proofs.Common.{◌≡◌, ◌+◌, ap, ◌∙◌, arith, ◌++◌
 use Rattle.std.specs.Prelude.{replicate}
 use Rattle.std.specs.Int.{div_ceil}
 use Rattle.std.specs.List.{flat_map, range_with_len}
-use Rattle.array_model.specs.Payload.{content_at}
+use Rattle.marker_format.specs.Fragment.{content_at}
 use Rattle.array_scan.specs.SetRead.{place_of}
 use Rattle.array_scan.proofs.Calls.{told_at, told_from}
 use Rattle.array_scan.proofs.ReadPayloads.{blocks_more, fragment_cut}

@@ -1,4 +1,4 @@
-use Rattle.std.proofs.Common.{ap, sym, ◌∙◌}
+use Rattle.std.proofs.Common.{ap, ◌∙◌}
 use Rattle.marker_format.specs.Block.{marker_in_block}
 use Rattle.marker_format.proofs.MarkerRules.{is_marker-true, IsMarker-true}
 use Rattle.marker_format.proofs.BlockLaws.{marker_in_block-is, marker_in_block-again}

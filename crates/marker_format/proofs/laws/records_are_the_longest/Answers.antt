@@ -1,4 +1,4 @@
-use Rattle.std.proofs.Common.{ap, arith, length, ◌++◌}
+use Rattle.std.proofs.Common.{ap, arith, length}
 use Rattle.std.proofs.lemmas.List.{length-append}
 use Rattle.marker_format.proofs.ZoneLaws.{Begin-begun, begun-longest}
 use Rattle.marker_format.proofs.laws.records_are_the_longest.Goals as goal

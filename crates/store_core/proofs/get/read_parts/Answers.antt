@@ -3,11 +3,10 @@ use Rattle.std.specs.Prelude.{option_map}
 use Rattle.std.specs.FinMap as finmap
 use borrow.Rule.Slice.PartMut.{put_mid}
 use Rattle.zone_bay.specs.Contents.{Contents}
-use Rattle.array_model.specs.Payload.{fragment_at}
+use Rattle.marker_format.specs.Fragment.{fragment_at, blocks_of}
 use Rattle.store_core.specs.declared.index.Part.{Part}
-use Rattle.store_core.specs.Blocks.{blocks_of}
 use Rattle.store_core.specs.Index.{Parts, parts_in, sizes_in}
-use Rattle.store_core.proofs.BlockLaws.{length-put_mid}
+use Rattle.marker_format.proofs.FragmentLaws.{length-put_mid}
 use Rattle.store_core.proofs.CallSteps.{reads_then, reads_answered}
 use Rattle.store_core.proofs.Extents.{sum_goes_on}
 use Rattle.store_core.proofs.PartsRead.{IsFilledSoFar, sized_sum, sum_within, filled_next, length-piece}

@@ -7,8 +7,8 @@ use Rattle.marker_format.specs.declared.marker.Marker.{Marker}
 use Rattle.marker_format.specs.Marker.{IsMarker}
 use Rattle.store_core.specs.declared.zone.Load.{Load}
 use Rattle.store_core.specs.declared.records.RecordPlace.{RecordPlace}
-use Rattle.store_core.specs.Blocks.{blocks_of}
-use Rattle.store_core.specs.Records.{part_marker, put_marker, next_place, record_bytes}
+use Rattle.marker_format.specs.Fragment.{blocks_of, record_bytes}
+use Rattle.store_core.specs.Records.{part_marker, put_marker, next_place}
 use Rattle.store_core.specs.Store.{put_load}
 use Rattle.store_core.proofs.PutBytes.{of_one, no_part, the_part, the_fragment, load_some, bytes_some, lone_note, own_part, own_note, both_written}
 use Rattle.store_core.proofs.RecordAdded.{length-record_bytes}

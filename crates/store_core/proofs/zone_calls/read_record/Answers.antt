@@ -1,6 +1,6 @@
 use Rattle.std.proofs.Common.{◌≡◌, ◌+◌, ◌*◌, length, arith, refl, length-take}
-use Rattle.store_core.specs.Blocks.{blocks_of}
-use Rattle.store_core.proofs.BlockLaws.{part_told}
+use Rattle.marker_format.specs.Fragment.{blocks_of}
+use Rattle.store_core.proofs.ToldFragments.{part_told}
 use Rattle.store_core.proofs.zone_calls.read_record.Goals as goal
 
 pub returns-clause-fragment : goal.returns-clause-fragment

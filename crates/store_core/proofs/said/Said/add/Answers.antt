@@ -8,7 +8,7 @@ use Rattle.array_model.specs.Record.{Record, note_stamp}
 use Rattle.store_core.specs.declared.index.Index.{Index}
 use Rattle.store_core.specs.declared.index.Part.{Part}
 use Rattle.store_core.specs.declared.said.Said.{Said}
-use Rattle.store_core.specs.Blocks.{blocks_of}
+use Rattle.marker_format.specs.Fragment.{blocks_of}
 use Rattle.store_core.specs.Index.{PartKey, parts_in, notes_in, with_part}
 use Rattle.store_core.specs.Said.{note_read}
 use Rattle.store_core.specs.Sound.{IsSoundPart, IsSoundIndex}

@@ -1,8 +1,8 @@
 use Rattle.std.proofs.Common.{◌≡◌, ℕ, ◌-◌, ◌*◌, ◌+◌, ◌++◌, length, take, drop, arith, ap, sym, ◌∙◌}
 use Rattle.std.proofs.lemmas.List.{take_all, append-nil}
 use borrow.Rule.Slice.PartMut.{put_mid}
-use Rattle.store_core.proofs.BlockLaws.{content_from, length-put_mid, filled_more, fragment_read}
-use Rattle.store_core.proofs.blocks.read_fragment.Goals as goal
+use Rattle.marker_format.proofs.FragmentLaws.{content_from, length-put_mid, filled_more, fragment_read}
+use Rattle.marker_format.proofs.fragment.read_fragment.Goals as goal
 
 pub loop-i-preserved : goal.loop-i-preserved
 loop-i-preserved c =

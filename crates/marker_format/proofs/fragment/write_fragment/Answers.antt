@@ -1,8 +1,8 @@
 use Rattle.std.proofs.Common.{◌≡◌, ◌+◌, ◌-◌, ◌*◌, ◌++◌, length, take, drop, arith, ap, ◌∙◌}
 use borrow.Rule.Slice.PartMut.{put_mid}
-use Rattle.store_core.specs.Blocks.{blocks_from}
-use Rattle.store_core.proofs.BlockLaws.{length-put_mid, written_more}
-use Rattle.store_core.proofs.blocks.write_fragment.Goals as goal
+use Rattle.marker_format.specs.Fragment.{blocks_from}
+use Rattle.marker_format.proofs.FragmentLaws.{length-put_mid, written_more}
+use Rattle.marker_format.proofs.fragment.write_fragment.Goals as goal
 
 pub loop-i-preserved : goal.loop-i-preserved
 loop-i-preserved c =

@@ -1,6 +1,6 @@
 use Rattle.std.proofs.Common.{◌≡◌, ◌*◌, ◌-◌, ◌++◌, length, take, drop}
-use Rattle.store_core.specs.Blocks.{blocks_from, fragment_blocks}
-use Rattle.store_core.proofs.blocks.write_fragment.Given as goal
+use Rattle.marker_format.specs.Fragment.{blocks_from, fragment_blocks}
+use Rattle.marker_format.proofs.fragment.write_fragment.Given as goal
 
 -- the blocks so far and those of the rest are those of the fragment
 abbrev pub invariant-loop-i : goal.invariant-loop-i

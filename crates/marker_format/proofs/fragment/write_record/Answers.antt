@@ -1,9 +1,9 @@
 use Rattle.std.proofs.Common.{◌≡◌, ◌+◌, ◌-◌, ◌*◌, ◌++◌, List, ℕ, length, drop, refl, ap, ◌∙◌, arith, length-take}
 use Rattle.marker_format.specs.Block.{marker_block}
 use Rattle.marker_format.proofs.BlockLaws.{length-marker_block}
-use Rattle.store_core.specs.Blocks.{fragment_blocks}
-use Rattle.store_core.proofs.BlockLaws.{length-blocks_from, record_written}
-use Rattle.store_core.proofs.records.write_record.Goals as goal
+use Rattle.marker_format.specs.Fragment.{fragment_blocks}
+use Rattle.marker_format.proofs.FragmentLaws.{length-blocks_from, record_written}
+use Rattle.marker_format.proofs.fragment.write_record.Goals as goal
 
 pub slice_bounds-write_marker_block-end-2 : goal.slice_bounds-write_marker_block-end-2
 slice_bounds-write_marker_block-end-2 c = omega (arith, length-take 512 c.args.out.now, c.requires.room)

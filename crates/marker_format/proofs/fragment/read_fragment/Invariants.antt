@@ -1,6 +1,6 @@
 use Rattle.std.proofs.Common.{◌≡◌, ◌*◌, ◌-◌, ◌++◌, length, take, drop}
-use Rattle.store_core.proofs.BlockLaws.{content_from}
-use Rattle.store_core.proofs.blocks.read_fragment.Given as goal
+use Rattle.marker_format.proofs.FragmentLaws.{content_from}
+use Rattle.marker_format.proofs.fragment.read_fragment.Given as goal
 
 -- what is filled so far and what the other blocks have is the fragment
 abbrev pub invariant-loop-i : goal.invariant-loop-i

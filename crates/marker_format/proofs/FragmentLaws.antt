@@ -1,7 +1,5 @@
 -- A fragment is read again from its blocks, whatever stands before and behind them.
 use Rattle.std.proofs.Common.{◌≡◌, ℕ, inl, inr, zero, suc, ◌+◌, ◌-◌, ◌*◌, ◌<◌, ◌≤◌, min, List, [], ◌++◌, length, take, drop, replicate, arith, refl, sym, ap, ◌∙◌, append_assoc, length-append, length-take, length-drop, take-append-drop}
-use Rattle.std.specs.Prelude.{Option, Some, None, IfSome}
-use Rattle.zone_bay.specs.Contents.{Contents}
 use Rattle.std.specs.List.{flat_map, range_with_len}
 use Rattle.std.proofs.lemmas.List.{take_at, drop_at, take_all, take_min, take-take, take-append-le, drop-append-le, drop-drop, drop-take, nil_from_length, append-nil, length-replicate}
 use Rattle.std.proofs.lemmas.Slice.{take-put_mid}
@@ -9,8 +7,7 @@ use Rattle.std.proofs.Math.Seq.{take-append-add}
 use Rattle.std.proofs.lemmas.Bool.{cases_lt}
 use borrow.Rule.Slice.PartMut.{put_mid}
 use Rattle.marker_format.specs.Block.{block_of, data_block}
-use Rattle.array_model.specs.Payload.{content_at, fragment_at}
-use Rattle.store_core.specs.Blocks.{blocks_of, blocks_from, fragment_blocks}
+use Rattle.marker_format.specs.Fragment.{blocks_of, blocks_from, fragment_blocks, content_at, fragment_at}
 
 -- ---- blocks
 
@@ -192,12 +189,6 @@ fragment_at-part zone part at block bytes place is long within =
     ∙ sym (content_from-front count (take (512 * count) here) (drop (512 * count) here) bytes (omega (arith, length-take (512 * count) here, length-drop (512 * block) zone)))
     ∙ ap (λ (l : List ℕ). content_from count l bytes) (take-append-drop (512 * count) here)
     ∙ sym (fragment_read zone block bytes within)
-
--- the same where the contents are told
-pub part_told : (contents : Option Contents) (part out : List ℕ) (at block bytes : ℕ) → at ≡ 512 * block → length part ≡ 512 * blocks_of bytes → out ≡ fragment_at part 0 bytes
-    → IfSome contents (λ held. 512 * (block + blocks_of bytes) ≤ length (held 0 2)) → IfSome contents (λ held. part ≡ take (length part) (drop at (held 0 2))) → IfSome contents (λ held. out ≡ fragment_at (held 0 2) block bytes)
-part_told None part out at block bytes place long is within reads = tt
-part_told (Some held) part out at block bytes place long is within reads = is ∙ fragment_at-part (held 0 2) part at block bytes place reads long within
 
 -- a record's marker and its fragment were written at the front
 pub record_written : (out marker block fragment : List ℕ) (n k : ℕ) → block ≡ marker → length block ≡ 512 → n ≡ 512 + k - 512 → length fragment ≡ n → 512 + k ≤ length out
