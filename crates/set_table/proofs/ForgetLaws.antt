@@ -1,13 +1,13 @@
 -- Zones of which none carries an index of a set any more.
-use Rattle.std.proofs.Common.{◌≡◌, ◌≢◌, ◌⊎◌, ℕ, zero, suc, ◌+◌, ◌<◌, ◌≤◌, Bool, true, false, cond, List, [], ◌∷◌, map, length, get_or, set, inl, inr, refl, sym, ap, subst, ◌∙◌, arith}
+use Rattle.std.proofs.Common.{◌≡◌, ◌≢◌, ◌⊎◌, ℕ, zero, suc, ◌<◌, Bool, true, false, cond, List, [], ◌∷◌, map, length, get_or, set, inl, inr, refl, sym, ap, ◌∙◌, arith}
 use Rattle.std.proofs.lemmas.Bool.{cases_Bool, false_from_ne_true, both_ways}
 use Rattle.std.proofs.lemmas.List.{length-map}
 use Rattle.set_table.specs.declared.zone_use.ZoneUse.{ZoneUse}
-use Rattle.set_table.specs.declared.zone_use.ZoneUse.TheVariants.{Empty, Taken, Carrier}
+use Rattle.set_table.specs.declared.zone_use.ZoneUse.TheVariants.{Taken, Carrier}
 use Rattle.set_table.specs.declared.rows.Place.{Place}
 use Rattle.set_table.specs.Zones.{carries}
 use Rattle.set_table.specs.Table.{zones_of, use_at, put_use, forgets, without, IsDrive}
-use Rattle.set_table.proofs.UseLaws.{carrier_within, taken_is_bare, carries_carrier, is_carrier_of}
+use Rattle.set_table.proofs.UseLaws.{carrier_within, taken_is_bare, is_carrier_of}
 
 module _ (number index : ℕ) where
   uses_same : (uses : List ZoneUse) → ((z : ℕ) → carries number index (get_or uses z Taken) ≡ false) → map (forgets number index) uses ≡ uses

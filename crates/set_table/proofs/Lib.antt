@@ -3,6 +3,7 @@ pub mod ChoiceLaws
 pub mod Counts
 pub mod ForgetLaws
 pub mod FormLaws
+pub mod GroupLaws
 pub mod LostLaws
 pub mod MarkLaws
 pub mod MissingLaws

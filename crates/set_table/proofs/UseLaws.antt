@@ -1,16 +1,15 @@
 -- A table where one zone is put to another use, that carries a set then or doesn't.
-use Rattle.std.proofs.Common.{◌≡◌, ◌⊎◌, ◌≢◌, ℕ, ◌+◌, ◌-◌, ◌<◌, ◌≤◌, Bool, true, false, cond, List, [], map, option_map, length, get_or, set, Option, Some, None, IsSome, IsSomeAnd, IfSome, is_some, inl, inr, refl, sym, ap, subst, ◌∙◌, arith}
+use Rattle.std.proofs.Common.{◌≡◌, ◌⊎◌, ℕ, ◌+◌, ◌-◌, ◌<◌, ◌≤◌, Bool, true, false, cond, List, [], map, option_map, length, get_or, set, Option, Some, None, IsSome, IsSomeAnd, is_some, inl, inr, refl, sym, ap, subst, ◌∙◌, arith}
 use Rattle.std.specs.Prelude.{◌==◌, ◌&&◌}
-use Rattle.std.proofs.lemmas.Bool.{and_parts, eqb-true, eq-eqb, both_ways, cases_eq, cases_lt}
+use Rattle.std.proofs.lemmas.Bool.{and_parts, eqb-true, eq-eqb, cases_eq, cases_lt}
 use Rattle.std.proofs.lemmas.List.{get_or_past, get_or_default, set-get_or}
 use Rattle.smore_base.specs.declared.geometry.Geometry.{Geometry}
-use Rattle.smore_base.specs.declared.limits.TheConstants.{MAX_FRAGMENTS}
 use Rattle.set_table.specs.declared.zone_use.ZoneUse.{ZoneUse}
 use Rattle.set_table.specs.declared.zone_use.ZoneUse.TheVariants.{Empty, Taken, Carrier}
 use Rattle.set_table.specs.declared.rows.Row.{Row}
 use Rattle.set_table.specs.Zones.{is_empty, carries}
-use Rattle.set_table.specs.Rows.{RowList, row_of, PutsRow}
-use Rattle.set_table.specs.Table.{marks_of, marked, zones_of, use_at, put_use, taken, IsBare, IsCarried, HasPlace, IsTable}
+use Rattle.set_table.specs.Rows.{RowList, row_of}
+use Rattle.set_table.specs.Table.{marks_of, marked, zones_of, use_at, put_use, taken, IsBare, HasPlace, IsTable}
 use Rattle.set_table.proofs.TableLaws.{marks_row, some_row, length-put, put_there, put_elsewhere, shaped-put}
 
 pub taken_is_bare : IsBare Taken

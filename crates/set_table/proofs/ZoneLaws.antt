@@ -1,7 +1,7 @@
 -- The zones of a drive: how many are empty, and which is the lowest of these.
 use Rattle.std.proofs.Common.{◌≡◌, ℕ, zero, suc, ◌+◌, ◌-◌, ◌<◌, ◌≤◌, min, Bool, true, false, cond, List, [], ◌∷◌, length, drop, replicate, get_or, set, refl, sym, ap, ◌∙◌, arith}
 use Rattle.std.specs.Int.{from_bool}
-use Rattle.std.proofs.lemmas.List.{ext_get_or, get_or_default, length-set}
+use Rattle.std.proofs.lemmas.List.{ext_get_or, get_or_default, get_or-replicate, length-replicate, length-set}
 use Rattle.set_table.specs.declared.zone_use.ZoneUse.{ZoneUse}
 use Rattle.set_table.specs.declared.zone_use.ZoneUse.TheVariants.{Empty, Taken, Carrier}
 use Rattle.set_table.specs.Zones.{is_empty, count_empty, before_empty, blank}
@@ -10,7 +10,7 @@ use Rattle.set_table.specs.Zones.{is_empty, count_empty, before_empty, blank}
 abbrev pub ones : ZoneUse → ℕ
 ones u = from_bool (is_empty u)
 
-counted : (u : ZoneUse) (uses : List ZoneUse) → count_empty (u ∷ uses) ≡ ones u + count_empty uses
+pub counted : (u : ZoneUse) (uses : List ZoneUse) → count_empty (u ∷ uses) ≡ ones u + count_empty uses
 counted Empty uses = omega arith
 counted Taken uses = omega arith
 counted (Carrier s i) uses = omega arith
@@ -30,25 +30,7 @@ count_few (u ∷ uses) = omega (arith, counted u uses, count_few uses, few u)
     few Taken = omega arith
     few (Carrier s i) = omega arith
 
-pub before_few : (uses : List ZoneUse) → before_empty uses ≤ length uses
-before_few [] = omega arith
-before_few (Empty ∷ uses) = omega arith
-before_few (Taken ∷ uses) = omega (arith, before_few uses)
-before_few (Carrier s i ∷ uses) = omega (arith, before_few uses)
-
--- the zones from one on, which is empty or not
-pub before_here : (uses : List ZoneUse) (z : ℕ) → z < length uses → is_empty (get_or uses z Taken) ≡ true → before_empty (drop z uses) ≡ 0
-before_here [] z within e = absurd (omega (arith, within))
-before_here (x ∷ uses) zero within e = ap (λ b. cond b 0 (suc (before_empty uses))) e
-before_here (x ∷ uses) (suc z) within e = before_here uses z (omega (arith, within)) e
-
-pub before_next : (uses : List ZoneUse) (z : ℕ) → z < length uses → is_empty (get_or uses z Taken) ≡ false → before_empty (drop z uses) ≡ 1 + before_empty (drop (z + 1) uses)
-before_next [] z within e = absurd (omega (arith, within))
-before_next (x ∷ uses) zero within e = ap (λ b. cond b 0 (suc (before_empty uses))) e ∙ omega arith
-before_next (x ∷ uses) (suc z) within e =
-    let later : drop (z + 1) uses ≡ drop (suc z + 1) (x ∷ uses) = ap (λ n. drop n (x ∷ uses)) {x = suc (z + 1)} (omega arith) in
-    before_next uses z (omega (arith, within)) e ∙ ap (λ l. 1 + before_empty l) later
-
+-- from the end on there is none
 pub before_end : (uses : List ZoneUse) (z : ℕ) → length uses ≤ z → before_empty (drop z uses) ≡ 0
 before_end [] zero past = refl
 before_end [] (suc z) past = refl
@@ -91,6 +73,16 @@ before_used (Taken ∷ uses) (suc z) u is low within = omega (arith, before_used
 before_used (Carrier s i ∷ uses) zero u is low within = absurd (omega (arith, low))
 before_used (Carrier s i ∷ uses) (suc z) u is low within = omega (arith, before_used uses z u is (omega (arith, low)) (omega (arith, within)))
 
+-- ---- zones of which none is empty
+
+pub none_empty : (zones : ℕ) → count_empty (replicate zones Taken) ≡ 0
+none_empty zero = refl
+none_empty (suc zones) = none_empty zones
+
+pub all_before : (zones : ℕ) → before_empty (replicate zones Taken) ≡ zones
+all_before zero = refl
+all_before (suc zones) = ap suc (all_before zones)
+
 -- ---- blank zones
 
 -- all from 2 on are empty, and the first two are not
@@ -100,31 +92,8 @@ pub record IsBlank (zones : ℕ) (uses : List ZoneUse) : Type 0 where
   pub second : get_or uses 1 Taken ≡ Taken
   pub others : (z : ℕ) → 2 ≤ z → z < zones → get_or uses z Taken ≡ Empty
 
-count-replicate : (n : ℕ) → count_empty (replicate n Empty) ≡ n
-count-replicate zero = refl
-count-replicate (suc n) = ap suc (count-replicate n)
-
-get_or-replicate : (n z : ℕ) → z < n → get_or (replicate n Empty) z Taken ≡ Empty
-get_or-replicate zero z within = absurd (omega (arith, within))
-get_or-replicate (suc n) zero within = refl
-get_or-replicate (suc n) (suc z) within = get_or-replicate n z (omega (arith, within))
-
-length-replicate : (n : ℕ) → length (replicate n Empty) ≡ n
-length-replicate zero = refl
-length-replicate (suc n) = ap suc (length-replicate n)
-
 pub length-blank : (zones : ℕ) → 2 ≤ zones → length (blank zones) ≡ zones
-length-blank zones some = omega (arith, length-replicate (zones - 2), some)
-
-pub count-blank : (zones : ℕ) → count_empty (blank zones) ≡ zones - 2
-count-blank zones = count-replicate (zones - 2)
-
-pub before-blank : (zones : ℕ) → before_empty (blank zones) ≡ 2
-before-blank zones = at_one (zones - 2)
-  where
-    at_one : (n : ℕ) → before_empty (Taken ∷ Taken ∷ replicate n Empty) ≡ 2
-    at_one zero = refl
-    at_one (suc n) = refl
+length-blank zones some = omega (arith, length-replicate (zones - 2) Empty, some)
 
 pub blank_is : (zones : ℕ) (uses : List ZoneUse) → 2 ≤ zones → IsBlank zones uses → uses ≡ blank zones
 blank_is zones uses some is = ext_get_or Taken uses (blank zones) (is.long ∙ sym (length-blank zones some)) at_one
@@ -134,14 +103,7 @@ blank_is zones uses some is = ext_get_or Taken uses (blank zones) (is.long ∙ s
     at_one (suc zero) below = is.second
     at_one (suc (suc z)) below =
         let within : suc (suc z) < zones = omega (arith, below, is.long) in
-        is.others (suc (suc z)) (omega arith) within ∙ sym (get_or-replicate (zones - 2) z (omega (arith, within)))
-
-pub set_blank : (zones : ℕ) → 2 ≤ zones → set (set (replicate zones Empty) 0 Taken) 1 Taken ≡ blank zones
-set_blank zero some = absurd (omega (arith, some))
-set_blank (suc zero) some = absurd (omega (arith, some))
-set_blank (suc (suc n)) some =
-    let same : n ≡ suc (suc n) - 2 = omega arith in
-    ap (λ m. Taken ∷ Taken ∷ replicate m Empty) same
+        is.others (suc (suc z)) (omega arith) within ∙ sym (get_or-replicate (zones - 2) z Empty Taken (omega (arith, within)))
 
 -- ---- one zone put to another use
 

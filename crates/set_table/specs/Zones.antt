@@ -1,7 +1,8 @@
 -- The zones of a drive.
-use Rattle.std.specs.Prelude.{ℕ, suc, ◌-◌, Bool, true, false, ◌&&◌, ◌==◌, List, [], ◌∷◌, length, filter, replicate, nat_lt, Option, Some, None, if◌then◌else◌}
+use Rattle.std.specs.Prelude.{◌≡◌, ℕ, suc, ◌-◌, ◌*◌, ◌<◌, ◌≤◌, Bool, true, false, ◌&&◌, ◌==◌, List, [], ◌∷◌, length, take, drop, get_or, filter, replicate, nat_lt, Option, Some, None, if◌then◌else◌}
 use Rattle.set_table.specs.declared.zone_use.ZoneUse.{ZoneUse}
 use Rattle.set_table.specs.declared.zone_use.ZoneUse.TheVariants.{Empty, Taken, Carrier}
+use Rattle.set_table.specs.declared.drive_zones.TheConstants.{GROUP}
 
 -- the zone is empty
 abbrev pub is_empty : ZoneUse → Bool
@@ -31,3 +32,12 @@ lowest_empty uses = if nat_lt (before_empty uses) (length uses) then Some (befor
 -- The zones of a drive that carries nothing: zones 0 and 1 are no set zones.
 abbrev pub blank : ℕ → List ZoneUse
 blank zones = Taken ∷ Taken ∷ replicate (zones - 2) Empty
+
+-- how many zones of a group are empty
+abbrev pub empty_in : List ZoneUse → ℕ → ℕ
+empty_in uses group = count_empty (take GROUP (drop (group * GROUP) uses))
+
+-- each zone is in a group whose empty zones are counted
+pub record IsGrouped (uses : List ZoneUse) (groups : List ℕ) : Type 0 where
+  pub all : length uses ≤ length groups * GROUP
+  pub counts : (group : ℕ) → group < length groups → get_or groups group 0 ≡ empty_in uses group

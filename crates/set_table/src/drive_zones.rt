@@ -3,17 +3,22 @@ ghost use Rattle.std.specs.Prelude.{◌≡◌, ◌+◌, ◌≤◌, ◌<◌, ◌^
 ghost use Rattle.std.specs.List.{slice_index_or, slice_set};
 ghost use Rattle.set_table.specs.declared.zone_use.ZoneUse.{ZoneUse};
 ghost use Rattle.set_table.specs.declared.zone_use.ZoneUse.TheVariants.{Taken};
-ghost use Rattle.set_table.specs.Zones.{count_empty, before_empty, lowest_empty, blank};
+ghost use Rattle.set_table.specs.Zones.{count_empty, before_empty, lowest_empty, blank, IsGrouped};
 
 use crate::zone_use::ZoneUse;
 use smore_base::Memory;
 use std::alloc::Global;
 use std::marker::Model;
 
+/// Zones of a group, whose empty ones are counted: zones 0 to 63, 64 to 127 and so on.
+const GROUP: usize = 64;
+
 /// What each zone of a drive is used for. Contracts see a list of it, from zone 0 on.
 #[derive(Drop)]
 pub(crate) struct DriveZones {
     uses: Vec<ZoneUse>,
+    /// How many zones of each group are empty, so that a group with none is passed at one step.
+    groups: Vec<u8>,
     /// How many zones are empty.
     empty: u16,
     /// The lowest empty zone, or the number of zones.
@@ -25,7 +30,7 @@ impl Model for DriveZones {
 
     ghost view = { λ d. d.uses.items };
 
-    ghost invariant = { λ d. (length d.uses.items < 2 ^ 16) × (d.empty ≡ count_empty d.uses.items) × (d.lowest ≡ before_empty d.uses.items) };
+    ghost invariant = { λ d. (length d.uses.items < 2 ^ 16) × (d.empty ≡ count_empty d.uses.items) × (d.lowest ≡ before_empty d.uses.items) × IsGrouped d.uses.items d.groups.items };
 }
 
 impl DriveZones {
@@ -34,14 +39,16 @@ impl DriveZones {
         requires { 2 ≤ zones }
         ensures { IfOk result (λ d. d ≡ blank zones) }
     {
-        let mut uses = vec![in alloc; ZoneUse::Empty; zones as usize]?;
-        uses[0] = ZoneUse::Taken;
-        uses[1] = ZoneUse::Taken;
-        Ok(DriveZones {
+        let uses = vec![in alloc; ZoneUse::Taken; zones as usize]?;
+        let groups = vec![in alloc; 0u8; zones as usize / GROUP + 1]?;
+        let mut drive = DriveZones {
             uses,
-            empty: zones - 2,
-            lowest: 2,
-        })
+            groups,
+            empty: 0,
+            lowest: zones,
+        };
+        drive.clear();
+        Ok(drive)
     }
 
     /// What the zone is used for. A zone that isn't there counts as taken.
@@ -60,13 +67,17 @@ impl DriveZones {
         ensures { self.new ≡ slice_set self.old zone to }
     {
         let at = zone as usize;
-        let others = self.empty - u16::from(self.uses[at].is_empty());
-        self.empty = others + u16::from(to.is_empty());
+        let group = at / GROUP;
+        // one for an empty zone
+        let was = u8::from(self.uses[at].is_empty());
+        let now = u8::from(to.is_empty());
+        self.empty = self.empty - u16::from(was) + u16::from(now);
+        self.groups[group] = self.groups[group] - was + now;
         self.uses[at] = to;
         if to.is_empty() {
             self.lowest = self.lowest.min(zone);
         } else if zone == self.lowest {
-            self.lowest = next_empty(&self.uses, zone);
+            self.lowest = next_empty(&self.uses, &self.groups, zone);
         }
     }
 
@@ -76,13 +87,11 @@ impl DriveZones {
         ensures { self.new ≡ blank (length self.old) }
     {
         let zones = self.uses.len() as u16;
-        self.uses[0] = ZoneUse::Taken;
-        self.uses[1] = ZoneUse::Taken;
+        self.put(0, ZoneUse::Taken);
+        self.put(1, ZoneUse::Taken);
         for zone in 2..zones {
-            self.uses[zone as usize] = ZoneUse::Empty;
+            self.put(zone, ZoneUse::Empty);
         }
-        self.empty = zones - 2;
-        self.lowest = 2;
     }
 
     /// How many zones are empty.
@@ -105,16 +114,23 @@ impl DriveZones {
 }
 
 /// The first empty zone from this one on, or the number of zones.
-fn next_empty(uses: &[ZoneUse], first: u16) -> u16
+fn next_empty(uses: &[ZoneUse], groups: &[u8], first: u16) -> u16
     requires few { length uses.now < 2 ^ 16 }
     requires first { first ≤ length uses.now }
+    requires groups { IsGrouped uses.now groups.now }
     ensures { result ≡ first + before_empty (drop first uses.now) }
 {
-    let zones = uses.len() as u16;
-    for zone in first..zones {
-        if uses[zone as usize].is_empty() {
-            return zone;
+    let zones = uses.len();
+    let mut zone = first as usize;
+    while zone < zones {
+        let group = zone / GROUP;
+        if groups[group] == 0 {
+            zone = (group + 1) * GROUP;
+        } else if uses[zone].is_empty() {
+            return zone as u16;
+        } else {
+            zone += 1;
         }
     }
-    zones
+    zones as u16
 }

@@ -5,7 +5,7 @@ ghost use Rattle.set_table.specs.declared.zone_use.ZoneUse.TheVariants.{Empty, T
 ghost use Rattle.set_table.specs.Zones.{lowest_empty, blank};
 ghost use Rattle.set_table.specs.Rows.{row_of};
 ghost use Rattle.smore_base.specs.declared.limits.TheConstants.{MAX_FRAGMENTS};
-ghost use Rattle.set_table.specs.Table.{use_at, put_use, zones_of, IsSetZone, is_live, TellsCarrier, missing_of, empty_on, has_empty, with_empty_of, room_of, marks_of, is_marked, IsNextSet, Changes, blank_table, lost_bits, taken, Adds, HasPlace, KeepsCarried, Leaves, Stays, IsBare, without, Marked, marked, or_unmarked};
+ghost use Rattle.set_table.specs.Table.{use_at, put_use, zones_of, IsSetZone, is_live, TellsCarrier, missing_of, empty_on, has_empty, with_empty_of, room_of, marks_of, is_marked, IsNextSet, Changes, blank_table, lost_bits, taken, Adds, HasPlace, KeepsCarried, Leaves, Stays, IsBare, without, Marked, marked, or_unmarked, HangsTogether};
 
 use crate::drive_zones::DriveZones;
 use crate::rows::{Place, Row, Rows};
@@ -79,6 +79,7 @@ impl SetTable {
     pub fn geometry(&self) -> &Geometry
         ensures same { result.now ≡ self.now.geometry }
         ensures within { IsWithinLimits result.now }
+        ensures together { HangsTogether self.now }
     {
         &self.geometry
     }
@@ -162,7 +163,7 @@ impl SetTable {
     }
 
     /// What the zone is used for.
-    fn use_of(&self, place: Place) -> ZoneUse
+    pub(crate) fn use_of(&self, place: Place) -> ZoneUse
         ensures { result ≡ use_at self.now.zones place.device place.zone }
     {
         use_in(&self.drives, place)

@@ -2,6 +2,7 @@ ghost use Rattle.std.specs.Prelude.{◌≡◌, true};
 ghost use Rattle.set_table.specs.Table.{IsSetZone};
 
 use super::*;
+use crate::rows::Place;
 use smore_base::Geometry;
 use std::test::Fail;
 
@@ -113,7 +114,10 @@ fn sets_are_formed_while_there_is_room(rt: HostRuntime) -> Result<(), Fail> {
         }
         lose(&mut table, lost);
         for formed in 0..room {
-            assert_eq!(rt; table.room_sets(), room - formed);
+            assert_eq!(rt;
+                (table.room_sets(), plain_room(&table)),
+                (room - formed, room - formed)
+            );
             let set = form(&mut table, u64::from(formed) + 1)??;
             if formed == 0 {
                 assert_eq!(rt; set.len(), members.len());
@@ -125,7 +129,7 @@ fn sets_are_formed_while_there_is_room(rt: HostRuntime) -> Result<(), Fail> {
                 }
             }
         }
-        assert_eq!(rt; table.room_sets(), 0);
+        assert_eq!(rt; (table.room_sets(), plain_room(&table)), (0, 0));
         assert_eq!(rt; form(&mut table, 99)?.err(), Some(TooFew { live }));
     }
     Ok(())
@@ -153,22 +157,70 @@ fn a_set_is_told_while_it_is_carried(rt: HostRuntime) -> Result<(), Fail> {
         (table.carrier(5, 1), table.missing(5), table.lost()),
         (None, 1, 2)
     );
+    // another drive carries the index
+    add(&mut table, 5, 1, 3)?;
+    assert_eq!(rt; (table.carrier(5, 1), table.missing(5)), (Some((3, 2)), 0));
     // its zones are empty when it is back
     revive(&mut table, 1);
     assert_eq!(rt;
         (table.carrier(5, 1), table.missing(5), table.lost()),
-        (None, 1, 0)
+        (Some((3, 2)), 0, 0)
     );
     assert_eq!(rt;
         (table.lowest_empty(1), table.lowest_empty(0)),
         (Some(2), Some(3))
     );
     // the set leaves with its last carrier
+    release(&mut table, 3, 2);
     release(&mut table, 0, 2);
     assert_eq!(rt; (table.set_after(4), table.missing(5)), (Some(5), 2));
     release(&mut table, 2, 2);
     assert_eq!(rt; (table.set_after(4), table.missing(5)), (None, 3));
     assert_eq!(rt; (table.with_empty(), table.room_sets()), (4, 8));
+    // five sets are formed, and all their zones are released before the sixth
+    for set in 1..6 {
+        let _ = form(&mut table, set)??;
+    }
+    for device in 0..4 {
+        for zone in 2..8 {
+            release(&mut table, device, zone);
+        }
+    }
+    let _ = form(&mut table, 6)??;
+    for (device, zones) in (0..4).zip([5, 5, 5, 6]) {
+        assert_eq!(rt; table.empty_zones(device), zones);
+    }
+    Ok(())
+}
+
+/// How many zones of a drive are taken; the one of these that is released and taken again; and the lowest empty one then.
+const AGAIN: [(u16, u16, Option<u16>); 5] = [
+    (61, 2, Some(63)),
+    (62, 40, Some(64)),
+    (148, 63, Some(150)),
+    (190, 2, Some(192)),
+    (198, 64, None),
+];
+
+#[test]
+fn the_lowest_empty_zone_is_found_above_used_ones(rt: HostRuntime) -> Result<(), Fail> {
+    let geometry = Geometry {
+        drives: 3,
+        k: 2,
+        p: 1,
+        zones: 200,
+        blocks: 128,
+        shard: 1022,
+    };
+    geometry.check()?;
+    for (taken, again, lowest) in AGAIN {
+        let mut table = SetTable::new(rt.alloc(), geometry, [0; 16])?;
+        take(&mut table, 0, taken);
+        release(&mut table, 0, again);
+        assert_eq!(rt; table.lowest_empty(0), Some(again));
+        take(&mut table, 0, 1);
+        assert_eq!(rt; table.lowest_empty(0), lowest);
+    }
     Ok(())
 }
 
@@ -197,6 +249,40 @@ fn form(table: &mut SetTable, set: u64) -> Result<Result<Members, TooFew>, Fail>
     }
     let least = table.geometry().k + table.geometry().p;
     Ok(table.form_set(set, least))
+}
+
+/// Room by its definition: the greatest number of sets for which the drives have zones enough, of each drive one a set.
+fn plain_room(table: &SetTable) -> u32 {
+    let geometry = table.geometry();
+    let members = u32::from(geometry.k) + u32::from(geometry.p);
+    let mut room = 0;
+    for sets in 1..=u32::from(geometry.zones) {
+        let mut zones = 0u32;
+        for device in 0..geometry.drives {
+            zones = zones.saturating_add(sets.min(u32::from(table.empty_zones(device))));
+        }
+        if zones >= members * sets {
+            room = sets;
+        }
+    }
+    room
+}
+
+/// Lets the drive's lowest empty zone carry an index that none carries.
+fn add(table: &mut SetTable, set: u64, index: u8, device: u8) -> Result<(), Fail> {
+    table.reserve(1)?;
+    let Some(zone) = table.lowest_empty(device) else {
+        return Ok(());
+    };
+    if !is_set_zone(table, device, zone) || index >= table.geometry().k + table.geometry().p {
+        return Ok(());
+    }
+    table.take_zone(device, zone);
+    let is_taken = matches!(table.use_of(Place { device, zone }), ZoneUse::Taken);
+    if is_taken && table.carrier(set, index).is_none() {
+        table.add_carrier(set, index, device, zone);
+    }
+    Ok(())
 }
 
 fn mark(table: &mut SetTable, set: u64) {

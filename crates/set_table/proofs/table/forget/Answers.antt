@@ -1,4 +1,4 @@
-use Rattle.std.proofs.Common.{◌≡◌, ◌<◌, length, sym, ap, subst, ◌∙◌}
+use Rattle.std.proofs.Common.{sym, ap, ◌∙◌}
 use Rattle.set_table.specs.declared.zone_use.ZoneUse.TheVariants.{Taken}
 use Rattle.set_table.specs.Zones.{carries}
 use Rattle.set_table.specs.Table.{use_at}

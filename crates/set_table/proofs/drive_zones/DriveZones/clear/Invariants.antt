@@ -4,6 +4,6 @@ use Rattle.set_table.proofs.drive_zones.DriveZones.clear.Given as goal
 
 abbrev pub invariant-loop-zone : goal.invariant-loop-zone
 invariant-loop-zone l =
-    (2 ≤ l.zone) × (l.zone ≤ l.zones) × (length l.self-inside.uses.items ≡ l.zones)
-    × (get_or l.self-inside.uses.items 0 Taken ≡ Taken) × (get_or l.self-inside.uses.items 1 Taken ≡ Taken)
-    × ((z : ℕ) → 2 ≤ z → z < l.zone → get_or l.self-inside.uses.items z Taken ≡ Empty)
+    (2 ≤ l.zone) × (l.zone ≤ l.zones) × (length l.self ≡ l.zones)
+    × (get_or l.self 0 Taken ≡ Taken) × (get_or l.self 1 Taken ≡ Taken)
+    × ((z : ℕ) → 2 ≤ z → z < l.zone → get_or l.self z Taken ≡ Empty)

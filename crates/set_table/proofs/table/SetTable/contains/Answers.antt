@@ -1,4 +1,4 @@
-use Rattle.std.proofs.Common.{◌≡◌, None, IsSome, map, option_map, refl, sym, ap, subst, ◌∙◌}
+use Rattle.std.proofs.Common.{IsSome, option_map, refl, sym, ap, subst, ◌∙◌}
 use Rattle.set_table.specs.Table.{Table, marks_of, marked}
 use Rattle.set_table.proofs.TableLaws.{marks_row, some_marks}
 use Rattle.set_table.proofs.table.SetTable.contains.Goals as goal
