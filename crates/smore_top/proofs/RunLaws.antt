@@ -13,7 +13,7 @@ use Rattle.object_machine.specs.Coding.{Coding}
 use Rattle.store_core.specs.declared.store.Core.{Core}
 use Rattle.store_core.specs.Core.{geometry_of, coding_of, told_store, Steps}
 use Rattle.smore_top.specs.declared.end.End.{End}
-use Rattle.smore_top.specs.declared.end.End.TheVariants.{Done, NoMemory, BadWords, SourceFailed, SinkFailed, BadFrame, NotOpened}
+use Rattle.smore_top.specs.declared.end.End.TheVariants.{Done, NoMemory, BadWords, SourceFailed, SinkFailed, BadFrame, NotOpened, NotFormatted}
 use Rattle.smore_top.specs.End.{ArePut, EndsAsking, EndsSending, EndsOpen}
 use Rattle.smore_top.specs.Frames.{reply_frame, reply_frames}
 use Rattle.smore_top.specs.Answering.{StandsBehind, TakesLast, AsksCall, SendsReply}
@@ -39,6 +39,7 @@ open_asking SourceFailed asks = tt
 open_asking SinkFailed asks = tt
 open_asking BadFrame asks = tt
 open_asking NotOpened asks = absurd asks
+open_asking NotFormatted asks = absurd asks
 
 open_sending : (end : End) → EndsSending end → EndsOpen end
 open_sending Done sends = tt
@@ -48,6 +49,7 @@ open_sending SourceFailed sends = tt
 open_sending SinkFailed sends = tt
 open_sending BadFrame sends = tt
 open_sending NotOpened sends = absurd sends
+open_sending NotFormatted sends = absurd sends
 
 none_put : (end : End) → EndsAsking end → ArePut end 0 0
 none_put Done asks = refl
@@ -57,6 +59,7 @@ none_put SourceFailed asks = refl
 none_put SinkFailed asks = absurd asks
 none_put BadFrame asks = refl
 none_put NotOpened asks = absurd asks
+none_put NotFormatted asks = absurd asks
 
 no_part : (end : End) → EndsAsking end → IsPartPut end [] []
 no_part Done asks = refl
@@ -66,6 +69,7 @@ no_part SourceFailed asks = refl
 no_part SinkFailed asks = absurd asks
 no_part BadFrame asks = refl
 no_part NotOpened asks = absurd asks
+no_part NotFormatted asks = absurd asks
 
 last_unput : (end : End) → EndsSending end → ArePut end 1 0
 last_unput Done sends = absurd sends
@@ -75,6 +79,7 @@ last_unput SourceFailed sends = absurd sends
 last_unput SinkFailed sends = refl
 last_unput BadFrame sends = absurd sends
 last_unput NotOpened sends = absurd sends
+last_unput NotFormatted sends = absurd sends
 
 nothing_behind : (coding : Coding) (end : End) (left : List ℕ) → EndsSending end → StandsBehind coding end [] left
 nothing_behind coding Done left sends = absurd sends
@@ -84,6 +89,7 @@ nothing_behind coding SourceFailed left sends = absurd sends
 nothing_behind coding SinkFailed left sends = refl
 nothing_behind coding BadFrame left sends = absurd sends
 nothing_behind coding NotOpened left sends = absurd sends
+nothing_behind coding NotFormatted left sends = absurd sends
 
 put_more : (end : End) (calls put : ℕ) → ArePut end calls put → ArePut end (suc calls) (suc put)
 put_more Done calls put are = ap suc are
@@ -94,6 +100,7 @@ put_more SourceFailed calls put are = ap suc are
 put_more SinkFailed calls put are = omega (arith, are)
 put_more BadFrame calls put are = ap suc are
 put_more NotOpened calls put are = ap suc are
+put_more NotFormatted calls put are = ap suc are
 
 -- nothing more in front of nothing more
 twice_nothing : (held held' : List ℕ) → held' ≡ held → held' ≡ (held ++ []) ++ []
@@ -107,6 +114,7 @@ sent_part SourceFailed entry held held' sends sent = absurd sends
 sent_part SinkFailed entry held held' sends sent = (sent.0, sent.4 ∙ ap (λ (l : List ℕ). l ++ sent.0) (sym (append-nil held)), (sent.1, sent.2, sent.3))
 sent_part BadFrame entry held held' sends sent = absurd sends
 sent_part NotOpened entry held held' sends sent = absurd sends
+sent_part NotFormatted entry held held' sends sent = absurd sends
 
 -- ---- a call more
 

@@ -19,7 +19,7 @@ use Rattle.store_core.specs.declared.store.Core.{Core}
 use Rattle.store_core.specs.Stopped.{Array, RecoversTo, Keeps, MayStop}
 use Rattle.store_core.specs.Core.{map_in, objects_held, array_in, bay_of, is_lost_in, store_over, objects_in, HasEnough, Serves}
 use Rattle.smore_top.specs.declared.end.End.{End}
-use Rattle.smore_top.specs.declared.end.End.TheVariants.{Done, NoMemory, BadWords, SourceFailed, SinkFailed, BadFrame, NotOpened}
+use Rattle.smore_top.specs.declared.end.End.TheVariants.{Done, NoMemory, BadWords, SourceFailed, SinkFailed, BadFrame, NotOpened, NotFormatted}
 use Rattle.smore_top.specs.End.{ArePut}
 use Rattle.smore_top.specs.Headline.{Sides, Ran, around, moment_in, Leads, last_of, Runs, acknowledged, AcknowledgeEach, objects_after, RecoversAfter, MayStopRun}
 use Rattle.smore_top.proofs.Deleted.{deleted_stay_absent}
@@ -253,6 +253,7 @@ marks_most SourceFailed calls put are = omega (arith, are)
 marks_most SinkFailed calls put are = omega (arith, are)
 marks_most BadFrame calls put are = omega (arith, are)
 marks_most NotOpened calls put are = omega (arith, are)
+marks_most NotFormatted calls put are = omega (arith, are)
 
 module _ {B : Type 0} (g : bay.Ghosts B) where
   -- an opened core has the objects of the bay that it was opened on

@@ -3,7 +3,7 @@ use Rattle.std.specs.Prelude.{◌≡◌, ◌⊎◌, ℕ, ◌+◌, ◌≤◌, ◌
 use Rattle.zone_bay.specs.Outside.{Rose}
 use Rattle.smore_top.specs.declared.end.TheConstants as statuses
 use Rattle.smore_top.specs.declared.end.End.{End}
-use Rattle.smore_top.specs.declared.end.End.TheVariants.{Done, NoMemory, BadWords, SourceFailed, SinkFailed, BadFrame, NotOpened}
+use Rattle.smore_top.specs.declared.end.End.TheVariants.{Done, NoMemory, BadWords, SourceFailed, SinkFailed, BadFrame, NotOpened, NotFormatted}
 
 -- the status of each end
 abbrev pub status_of : End → ℕ
@@ -14,6 +14,7 @@ status_of SourceFailed = statuses.SOURCE_FAILED
 status_of SinkFailed = statuses.SINK_FAILED
 status_of BadFrame = statuses.BAD_FRAME
 status_of NotOpened = statuses.NOT_OPENED
+status_of NotFormatted = statuses.NOT_FORMATTED
 
 -- and the end of each status
 abbrev pub end_of : ℕ → End
@@ -24,7 +25,8 @@ end_of status =
     else if status == statuses.SOURCE_FAILED then SourceFailed
     else if status == statuses.SINK_FAILED then SinkFailed
     else if status == statuses.BAD_FRAME then BadFrame
-    else NotOpened
+    else if status == statuses.NOT_OPENED then NotOpened
+    else NotFormatted
 
 -- a count that rose; none falls
 abbrev pub Counted : ℕ → ℕ → Type 0
@@ -64,4 +66,5 @@ EndsSending end = ⊥
 abbrev pub EndsOpen : End → Type 0
 EndsOpen BadWords = ⊥
 EndsOpen NotOpened = ⊥
+EndsOpen NotFormatted = ⊥
 EndsOpen end = ⊤

@@ -1,31 +1,35 @@
 -- What `run_batch` does, beside the grammar of `Frames`: what a run took, answered and put, what it leaves, and how it ended.
-use Rattle.std.specs.Prelude.{IfSome, ◌≡◌, ◌≢◌, ◌⊎◌, ℕ, zero, suc, ◌<◌, ◌≤◌, nat_le, false, List, [], ◌∷◌, ◌++◌, length, map, take, drop, slice_get, Option, Some, None, Ok, ⊤}
+use Rattle.std.specs.Prelude.{IfSome, IsSome, ◌≡◌, ◌≢◌, ◌⊎◌, ℕ, zero, suc, ◌<◌, ◌≤◌, nat_le, false, List, [], ◌∷◌, ◌++◌, length, map, take, drop, slice_get, codes, Option, Some, None, Ok, ⊤}
 use Rattle.std.specs.List.{prefix_len}
 use Rattle.std.specs.FinMap as finmap
 use Rattle.smore_base.specs.declared.geometry.Geometry.{Geometry}
 use Rattle.smore_base.specs.Objects.{Map}
 use Rattle.smore_base.specs.Told.{Told}
 use Rattle.zone_bay.specs.declared.bay.Bay as bay
+use Rattle.zone_bay.specs.Outside.{Rose}
 use Rattle.zone_bay.specs.Contents.{Contents}
 use Rattle.zone_bay.specs.Images.{moment_of}
 use Rattle.zone_bay.specs.Bay.{BayState}
 use Rattle.zone_bay.specs.Stretch.{GoesOn}
+use Rattle.array_model.specs.Kept.{IsFormatted}
 use Rattle.object_machine.specs.declared.op.Op.TheVariants.{Delete}
-use Rattle.object_machine.specs.declared.reply.Reply.TheVariants.{Done}
+use Rattle.object_machine.specs.declared.reply.Reply.TheVariants as replies
 use Rattle.object_machine.specs.declared.machine.Entry.{Entry}
 use Rattle.object_machine.specs.History.{IsLegalHistory}
 use Rattle.object_machine.specs.Laws.{HasNoDonePut}
 use Rattle.store_core.specs.declared.store.Core.{Core}
 use Rattle.store_core.specs.declared.opening.OpenRefusal.TheVariants.{Memory, NoLabel}
 use Rattle.store_core.specs.Store.{Store, Move}
+use Rattle.store_core.specs.Format.{IsFirmOn}
 use Rattle.store_core.specs.Stopped.{Array, RecoversTo, Keeps, MayStop}
 use Rattle.store_core.specs.Core.{objects_held, array_in, bay_of, geometry_of, is_lost_in, coding_of, told_store, objects_in, HasEnough, HoldsMap, Goes, Steps, RefusesFor, Opens}
 use Rattle.smore_top.specs.declared.batch.Outcome.{Outcome}
 use Rattle.smore_top.specs.declared.end.End.{End}
-use Rattle.smore_top.specs.declared.end.End.TheVariants.{NoMemory, BadWords, SinkFailed, BadFrame, NotOpened}
+use Rattle.smore_top.specs.declared.end.End.TheVariants.{Done, NoMemory, BadWords, SinkFailed, BadFrame, NotOpened, NotFormatted}
 use Rattle.smore_top.specs.End.{end_of, ArePut, EndsOpen}
 use Rattle.smore_top.specs.Frames.{SpellsCalls, AreWholeFrames, ops_of, reply_frame, reply_frames}
 use Rattle.smore_top.specs.Answering.{StandsBehind}
+use Rattle.smore_top.specs.Streams.{PutsAll, PutsPart}
 
 -- ---- what a run has around it
 
@@ -145,7 +149,7 @@ module _ {B : Type 0} {g : bay.Ghosts B} (state : B → BayState) where
   -- After calls in which a delete of a name was done, and then no put of it, the name has no object.
   abbrev pub DeletedStayAbsent : Core B g → List Entry → List (Core B g) → Type 0
   DeletedStayAbsent opened entries cores =
-      (name : List ℕ) (first more rest : List Entry) (deleted : Entry) → entries ≡ (first ++ deleted ∷ more) ++ rest → deleted.op ≡ Delete name → deleted.reply ≡ Done → HasNoDonePut name more
+      (name : List ℕ) (first more rest : List Entry) (deleted : Entry) → entries ≡ (first ++ deleted ∷ more) ++ rest → deleted.op ≡ Delete name → deleted.reply ≡ replies.Done → HasNoDonePut name more
       → finmap.get (objects_after opened cores (length (first ++ deleted ∷ more))) name ≡ None
 
   -- A run, from the bay handed in to the bay given back, that may be stopped at any drive call.
@@ -188,5 +192,42 @@ NeverBeganBy state end old new = ⊥
 -- A run that never began answers no call.
 pub record NeverBegan {B : Type 0} (state : B → BayState) (ran : Ran) (old new : B) : Type 0 where
   pub by : NeverBeganBy state ran.end old new
+  pub calls : ran.calls ≡ 0
+  pub marks : ran.marks ≡ []
+
+-- ---- formatting
+
+-- what `format` puts: the word and a line end
+abbrev pub formatted_text : List ℕ
+formatted_text = codes "formatted" ++ 10 ∷ []
+
+-- The bay is a new array: each device holds its label alone, all of it firm, and no call failed. So all that a crash now may
+-- leave of it is opened to no object.
+pub record MakesArray (array : Array) (old new : BayState) : Type 0 where
+  pub formatted : Told old.contents new.contents (λ _ held. IsFormatted array old.shape held)
+  pub firm : (d : ℕ) → d < old.shape.devices → IsFirmOn d new
+  pub keeps : IsSome new.contents → Keeps array finmap.empty new
+  pub counts : (d : ℕ) → new.faults d ≡ old.faults d
+  pub same_shape : new.shape ≡ old.shape
+
+-- A call on one device failed: its count rose, and no other.
+pub record FailsAtOne (old new : BayState) : Type 0 where
+  pub device : ℕ
+  pub inside : device < old.shape.devices
+  pub rose : Rose (old.faults device) (new.faults device)
+  pub others : (d : ℕ) → d ≢ device → new.faults d ≡ old.faults d
+  pub same_shape : new.shape ≡ old.shape
+
+-- What `format` makes of the bay, and what it puts, by how it ends: the text is put once the array is made, a part of it where
+-- the sink failed, and nothing where a device did.
+abbrev pub FormatsBy : {B : Type 0} → (B → BayState) → Array → End → Sides B → Sides B → Type 0
+FormatsBy state array Done before after = MakesArray array (state before.works_on) (state after.works_on) × Told before.held after.held (PutsAll formatted_text)
+FormatsBy state array SinkFailed before after = MakesArray array (state before.works_on) (state after.works_on) × Told before.held after.held (PutsPart formatted_text)
+FormatsBy state array NotFormatted before after = FailsAtOne (state before.works_on) (state after.works_on) × (after.held ≡ before.held)
+FormatsBy state array end before after = ⊥
+
+-- A run of `format` answers no call.
+pub record RunsFormat {B : Type 0} (state : B → BayState) (array : Array) (ran : Ran) (before after : Sides B) : Type 0 where
+  pub by : FormatsBy state array ran.end before after
   pub calls : ran.calls ≡ 0
   pub marks : ran.marks ≡ []

@@ -11,7 +11,7 @@ use Rattle.object_machine.specs.Coding.{Coding}
 use Rattle.store_core.specs.declared.store.Core.{Core}
 use Rattle.store_core.specs.declared.opening.OpenRefusal.{OpenRefusal}
 use Rattle.store_core.specs.declared.opening.OpenRefusal.TheVariants.{Memory, NoLabel}
-use Rattle.store_core.specs.Stopped.{Array, IsLeftOf, RecoversTo, MayStop}
+use Rattle.store_core.specs.Stopped.{Array, IsLeftOf, RecoversTo, Keeps, MayStop}
 use Rattle.store_core.specs.Core.{array_in, bay_of, objects_in, Opens}
 use Rattle.smore_top.specs.declared.end.End.{End}
 use Rattle.smore_top.specs.declared.request.Request.{Request}
@@ -59,4 +59,11 @@ abbrev pub ImagesReopen : {B : Type 0} → bay.Ghosts B → Type 0
 ImagesReopen {B} g =
     (array : Array) (shape : Shape) (objects : Map) (image left : Contents) → RecoversTo array shape objects image → IsLeftOf image left
     → (old : B) → HoldsFirm shape left (g.state old)
+    → (result : Result (Core B g) (OpenRefusal × B)) → Opens g.state old result → ReopensTo g.state array objects old result
+
+-- A bay of which all that a crash now may leave recovers to some objects is opened to them too. So it is of a new array, which has
+-- none, and of what a run gives back that kept its objects.
+abbrev pub KeptReopen : {B : Type 0} → bay.Ghosts B → Type 0
+KeptReopen {B} g =
+    (array : Array) (objects : Map) (old : B) → Keeps array objects (g.state old)
     → (result : Result (Core B g) (OpenRefusal × B)) → Opens g.state old result → ReopensTo g.state array objects old result

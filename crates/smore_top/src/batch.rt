@@ -1,15 +1,19 @@
-ghost use Rattle.std.specs.Prelude.{◌≡◌, ◌⊎◌, ◌↔◌, ℕ, [], true, false};
+ghost use Rattle.std.specs.Prelude.{◌≡◌, ◌≢◌, ◌⊎◌, ◌↔◌, ℕ, [], true, false};
 ghost use Rattle.std.specs.List.Sorted.{IsNonDecreasing};
 ghost use Rattle.smore_top.specs.declared.end.End.{End};
 ghost use Rattle.smore_top.specs.End.{status_of, end_of, SourceCount, SinkCount};
-ghost use Rattle.smore_top.specs.Headline.{sides, Runs, RunsBatch, NeverBegan, AcknowledgeEach, ran_by};
+ghost use Rattle.marker_format.specs.Zone.{Array};
+ghost use Rattle.store_core.specs.Label.{IsOfBay};
+ghost use Rattle.smore_top.specs.Headline.{sides, Runs, RunsBatch, NeverBegan, RunsFormat, AcknowledgeEach, ran_by};
 ghost use Rattle.smore_top.specs.Turn.{ran_of};
-ghost use Rattle.smore_top.specs.Words.{IsBatch};
+ghost use Rattle.smore_top.specs.Words.{IsFormat, IsFormatFor, IsCommandLine};
 
 use crate::coder::Coder;
 use crate::end::End;
+use crate::formatting::{is_of_bay, make_array};
+use crate::task::{Task, read_task};
 use crate::turn::{Desk, answer_next};
-use crate::words::{Words, is_batch};
+use crate::words::Words;
 use crate::{Sink, Source};
 use std::alloc::Global;
 use store_core::{Core, OpenRefusal};
@@ -96,40 +100,70 @@ fn answer_all<S: Source, K: Sink, B: Bay>(
     }
 }
 
-/// Runs a command line over a bay: `batch F` opens it, takes frames from the source, answers each call, and puts its
-/// reply to the sink, until a Stop or the end of the input. `docs/RULES.md`, "A batch".
+/// Opens the bay and answers the calls of the source, until a Stop or the end of the input.
+fn answer_batch<S: Source, K: Sink, B: Bay>(
+    alloc: Global,
+    source: &mut S,
+    sink: &mut K,
+    bay: B,
+) -> (Run, B)
+    ensures batch { (NeverBegan B.state (ran_of result.0) bay result.1 × (source.new ≡ source.old) × (sink.new ≡ sink.old))
+        ⊎ RunsBatch ⟦<B as Bay>⟧ (ran_of result.0)
+        (sides (S.left source.old) (K.held sink.old) bay)
+        (sides (S.left source.new) (K.held sink.new) result.1) }
+    ensures words { result.0.end ≢ End.BadWords }
+    ensures source { SourceCount result.0.end (S.faults source.old) (S.faults source.new) }
+    ensures sink { SinkCount result.0.end (K.faults sink.old) (K.faults sink.new) }
+    ensures rising { IsNonDecreasing result.0.marks.items }
+{
+    let mut core = match Core::open(alloc, bay) {
+        Ok(core) => core,
+        Err((OpenRefusal::NoLabel, bay)) => return (Run::none(alloc, End::NotOpened), bay),
+        Err((OpenRefusal::Memory, bay)) => return (Run::none(alloc, End::NoMemory), bay),
+    };
+    let run = answer_all(alloc, &mut core, source, sink);
+    (run, core.into_bay())
+}
+
+/// Runs a command line over a bay. `batch F` opens it, takes frames from the source, answers each call, and puts its
+/// reply to the sink, until a Stop or the end of the input: `docs/RULES.md`, "A batch". `format F ..` makes an array of it, and
+/// puts a text that says so: `docs/RULES.md`, "Formatting".
 pub fn run_batch<S: Source, K: Sink, B: Bay>(
     alloc: Global,
     words: &Words,
     source: &mut S,
     sink: &mut K,
-    bay: B,
+    mut bay: B,
 ) -> (Outcome, B)
     ensures known { status_of (end_of result.0.status) ≡ result.0.status }
-    ensures words { (end_of result.0.status ≡ End.BadWords) ↔ (IsBatch words.now → ⊥) }
-    ensures batch { (NeverBegan B.state (ran_by result.0) bay result.1 × (source.new ≡ source.old) × (sink.new ≡ sink.old))
+    ensures words { (end_of result.0.status ≡ End.BadWords) ↔ (IsCommandLine (B.state bay).shape words.now → ⊥) }
+    ensures batch { (IsFormatFor (B.state bay).shape words.now → ⊥)
+        → (NeverBegan B.state (ran_by result.0) bay result.1 × (source.new ≡ source.old) × (sink.new ≡ sink.old))
         ⊎ RunsBatch ⟦<B as Bay>⟧ (ran_by result.0)
         (sides (S.left source.old) (K.held sink.old) bay)
         (sides (S.left source.new) (K.held sink.new) result.1) }
+    ensures format { (array : Array) → IsFormat array words.now → IsOfBay (B.state bay).shape array.geometry
+        → RunsFormat B.state array (ran_by result.0)
+        (sides (S.left source.old) (K.held sink.old) bay)
+        (sides (S.left source.new) (K.held sink.new) result.1) × (source.new ≡ source.old) }
     ensures source { SourceCount (end_of result.0.status) (S.faults source.old) (S.faults source.new) }
     ensures sink { SinkCount (end_of result.0.status) (K.faults sink.old) (K.faults sink.new) }
     ensures rising { IsNonDecreasing result.0.marks.items }
     ensures acknowledged { AcknowledgeEach result.0.marks.items }
     ensures place { result.0.at ≡ 0 }
 {
-    if !is_batch(words) {
-        return (Run::none(alloc, End::BadWords).outcome(), bay);
+    match read_task(words) {
+        None => (Run::none(alloc, End::BadWords).outcome(), bay),
+        Some(Task::Format(new)) => {
+            if !is_of_bay(&new.geometry, &bay) {
+                return (Run::none(alloc, End::BadWords).outcome(), bay);
+            }
+            let end = make_array(&new, sink, &mut bay);
+            (Run::none(alloc, end).outcome(), bay)
+        }
+        Some(Task::Batch) => {
+            let (run, bay) = answer_batch(alloc, source, sink, bay);
+            (run.outcome(), bay)
+        }
     }
-    let mut core = match Core::open(alloc, bay) {
-        Ok(core) => core,
-        Err((OpenRefusal::NoLabel, bay)) => {
-            return (Run::none(alloc, End::NotOpened).outcome(), bay);
-        }
-        Err((OpenRefusal::Memory, bay)) => {
-            return (Run::none(alloc, End::NoMemory).outcome(), bay);
-        }
-    };
-    let run = answer_all(alloc, &mut core, source, sink);
-    let outcome = run.outcome();
-    (outcome, core.into_bay())
 }

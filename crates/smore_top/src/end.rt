@@ -16,15 +16,19 @@ pub(crate) enum End {
     BadFrame,
     /// The bay can't be opened.
     NotOpened,
+    /// A call on a device failed while it was formatted.
+    NotFormatted,
 }
 
 // The number of each end: `docs/FORMATS.md`, "Statuses".
 
 pub(crate) const DONE: u8 = 0;
 
-pub(crate) const NO_MEMORY: u8 = 1;
+/// No memory was found outside a step.
+pub const NO_MEMORY: u8 = 1;
 
-pub(crate) const BAD_WORDS: u8 = 2;
+/// The words are no command line that can be run over the bay.
+pub const BAD_WORDS: u8 = 2;
 
 pub(crate) const SOURCE_FAILED: u8 = 3;
 
@@ -33,6 +37,8 @@ pub(crate) const SINK_FAILED: u8 = 4;
 pub(crate) const BAD_FRAME: u8 = 5;
 
 pub(crate) const NOT_OPENED: u8 = 6;
+
+pub(crate) const NOT_FORMATTED: u8 = 11;
 
 impl End {
     /// Its number.
@@ -47,6 +53,7 @@ impl End {
             End::SinkFailed => SINK_FAILED,
             End::BadFrame => BAD_FRAME,
             End::NotOpened => NOT_OPENED,
+            End::NotFormatted => NOT_FORMATTED,
         }
     }
 }

@@ -1,7 +1,8 @@
 //! What follows from the grammar of frames, from the table of statuses, and from what an opening does. These functions
 //! do nothing: their contracts are the theorems.
 
-ghost use Rattle.smore_top.specs.Laws.{FramesAreApart, RepliesAreApart, EndsAreApart, ImagesReopen};
+ghost use Rattle.smore_top.specs.Laws.{FramesAreApart, RepliesAreApart, EndsAreApart, ImagesReopen, KeptReopen};
+ghost use Rattle.smore_top.specs.Words.{OneCommand};
 
 use zone_bay::Bay;
 
@@ -16,6 +17,11 @@ pub fn replies_are_apart()
     ensures { RepliesAreApart }
 {}
 
+/// Words spell one command at most.
+pub fn words_spell_one_command()
+    ensures { OneCommand }
+{}
+
 /// No two ends share a status.
 pub fn ends_are_apart()
     ensures { EndsAreApart }
@@ -25,4 +31,10 @@ pub fn ends_are_apart()
 /// objects that the image recovers to. A stop in that opening leaves them too.
 pub fn images_reopen<B: Bay>()
     ensures { ImagesReopen ⟦<B as Bay>⟧ }
+{}
+
+/// A bay that keeps some objects is opened to them, with no call failing, and a stop in that opening leaves them too. So what
+/// `format` made can be opened, and what a run gave back.
+pub fn kept_arrays_reopen<B: Bay>()
+    ensures { KeptReopen ⟦<B as Bay>⟧ }
 {}

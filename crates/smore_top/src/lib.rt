@@ -4,11 +4,14 @@
 mod asking;
 mod batch;
 mod coder;
+mod command;
 mod end;
+mod formatting;
 mod frame_numbers;
 mod laws;
 mod memory_sink;
 mod memory_source;
+mod numeral;
 mod reply_frame;
 mod request;
 mod request_body;
@@ -16,11 +19,17 @@ mod sending;
 mod sink;
 mod source;
 mod stream_calls;
+mod task;
 mod turn;
 mod words;
 
 pub use batch::{Outcome, run_batch};
-pub use laws::{ends_are_apart, frames_are_apart, images_reopen, replies_are_apart};
+pub use command::{Command, WordFault, read_words};
+pub use end::{BAD_WORDS, NO_MEMORY};
+pub use laws::{
+    ends_are_apart, frames_are_apart, images_reopen, kept_arrays_reopen, replies_are_apart,
+    words_spell_one_command,
+};
 pub use memory_sink::MemorySink;
 pub use memory_source::MemorySource;
 pub use reply_frame::write_reply;

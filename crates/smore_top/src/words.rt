@@ -67,7 +67,7 @@ impl Words {
     }
 }
 
-fn is_option(word: &str) -> bool
+pub(crate) fn is_option(word: &str) -> bool
     ensures { IsTrue result ↔ IsOption word.now }
 {
     matches!(word.as_bytes(), [b'-', ..])
@@ -84,33 +84,4 @@ pub(crate) fn is_batch(words: &Words) -> bool
         return false;
     }
     !is_option(folder)
-}
-
-#[cfg(test)]
-mod tests {
-    use super::*;
-    use std::test::Fail;
-
-    #[test]
-    fn reads_batch(rt: HostRuntime) -> Result<(), Fail> {
-        let lines: [(&[&str], bool); 7] = [
-            (&["batch", "folder"], true),
-            (&["batch", "a-b"], true),
-            (&["batch", "-v"], false),
-            (&["batch"], false),
-            (&["batch", "folder", "more"], false),
-            (&["batches", "folder"], false),
-            (&[], false),
-        ];
-        for (line, is) in lines {
-            let mut words = Words::new(rt.alloc());
-            for word in line {
-                words.append_word(word)?;
-            }
-            assert_eq!(rt; words.len(), line.len());
-            assert_eq!(rt; words.is_empty(), line.is_empty());
-            assert_eq!(rt; is_batch(&words), is, "of {line:?}");
-        }
-        Ok(())
-    }
 }
