@@ -2,13 +2,13 @@
 
 use crate::fault::Fault;
 use bay_memory::{Keep, MemoryBay};
-use smore_base::Geometry;
+use smore_base::{BLOCK_BYTES, Geometry};
 use smore_top::Core;
 use std::alloc::Global;
 use zone_bay::Bay;
 
 /// Bytes of a block.
-pub(crate) const BLOCK: usize = 512;
+pub(crate) const BLOCK: usize = BLOCK_BYTES as usize;
 
 /// The identity of each array.
 const ARRAY: [u8; 16] = [0, 1, 2, 3, 4, 5, 6, 7, 8, 9, 10, 11, 12, 13, 14, 15];
@@ -26,7 +26,7 @@ pub(crate) fn image_of(
 /// A fresh formatted array. Its calls are counted from 0.
 pub(crate) fn formatted(alloc: Global, geometry: &Geometry) -> Result<MemoryBay, Fault> {
     if geometry.check().is_err() {
-        return Err(Fault::BadLine);
+        return Err(Fault::BadLine("a geometry within the limits"));
     }
     let mut bay = MemoryBay::new(alloc, geometry.drives + 1, geometry.zones, geometry.blocks)?;
     if Core::format(&mut bay, geometry, ARRAY).is_err() {

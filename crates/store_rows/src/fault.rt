@@ -7,8 +7,8 @@ use std::fmt;
 pub(crate) enum Fault {
     /// No memory was found.
     Memory,
-    /// The line is none of the language.
-    BadLine,
+    /// The line is none of the language: what would have to stand there.
+    BadLine(&'static str),
 }
 
 impl From<AllocError> for Fault {
@@ -33,7 +33,7 @@ impl fmt::Display for Fault {
     fn fmt<W: fmt::Write>(&self, f: &mut fmt::Formatter<W>) -> fmt::Result {
         match self {
             Fault::Memory => write!(f, "no memory"),
-            Fault::BadLine => write!(f, "a bad line"),
+            Fault::BadLine(wanted) => write!(f, "a bad line: wanted {wanted}"),
         }
     }
 }

@@ -55,7 +55,7 @@ enum Told {
 
 fn status_of(fault: Fault) -> u8 {
     match fault {
-        Fault::BadLine => BAD_LINE,
+        Fault::BadLine(_) => BAD_LINE,
         Fault::Memory => NO_MEMORY,
     }
 }
@@ -87,7 +87,12 @@ fn play_file(rt: &(impl Print + AllocGlobal), name: &str, text: &str) -> io::Res
             let line = difference.line;
             let wanted = difference.wanted.as_str();
             let got = difference.got.as_str();
-            println!(rt; "{name}:{line}: wanted {wanted}, got {got}")?;
+            let under = difference.under.as_str();
+            if under.is_empty() {
+                println!(rt; "{name}:{line}: wanted {wanted}, got {got}")?;
+            } else {
+                println!(rt; "{name}:{line}: wanted {wanted}, got {got} ({under})")?;
+            }
         }
     }
     Ok(Told::Rows { passed, differ })

@@ -23,36 +23,40 @@ pub(crate) struct Parser {
 }
 
 fn number_u8(word: &str) -> Result<u8, Fault> {
-    word.parse::<u8>().map_err(|_| Fault::BadLine)
+    word.parse::<u8>()
+        .map_err(|_| Fault::BadLine("a number from 0 to 255"))
 }
 
 fn number_u16(word: &str) -> Result<u16, Fault> {
-    word.parse::<u16>().map_err(|_| Fault::BadLine)
+    word.parse::<u16>()
+        .map_err(|_| Fault::BadLine("a number from 0 to 65535"))
 }
 
 fn number_u32(word: &str) -> Result<u32, Fault> {
-    word.parse::<u32>().map_err(|_| Fault::BadLine)
+    word.parse::<u32>()
+        .map_err(|_| Fault::BadLine("a number from 0 to 4294967295"))
 }
 
 fn number_u64(word: &str) -> Result<u64, Fault> {
-    word.parse::<u64>().map_err(|_| Fault::BadLine)
+    word.parse::<u64>().map_err(|_| Fault::BadLine("a number"))
 }
 
 fn size(word: &str) -> Result<usize, Fault> {
-    word.parse::<usize>().map_err(|_| Fault::BadLine)
+    word.parse::<usize>()
+        .map_err(|_| Fault::BadLine("a number of bytes or blocks"))
 }
 
 /// A size of 1 or more.
 fn some_bytes(word: &str) -> Result<usize, Fault> {
     match size(word)? {
-        0 => Err(Fault::BadLine),
+        0 => Err(Fault::BadLine("one byte at least")),
         bytes => Ok(bytes),
     }
 }
 
 fn geometry_of(words: &[&str]) -> Result<Geometry, Fault> {
     let [drives, k, p, zones, blocks, shard] = *words else {
-        return Err(Fault::BadLine);
+        return Err(Fault::BadLine("array DRIVES K P ZONES BLOCKS SHARD"));
     };
     let geometry = Geometry {
         drives: number_u8(drives)?,
@@ -64,7 +68,7 @@ fn geometry_of(words: &[&str]) -> Result<Geometry, Fault> {
     };
     match geometry.check() {
         Ok(()) => Ok(geometry),
-        Err(_) => Err(Fault::BadLine),
+        Err(_) => Err(Fault::BadLine("a geometry within the limits")),
     }
 }
 
@@ -72,7 +76,7 @@ fn ended_of(line: usize, words: &[&str]) -> Result<Ended, Fault> {
     let (status, at, calls, marks) = match *words {
         [status, "calls", calls, "marks", marks] => (status, "0", calls, marks),
         [status, "at", at, "calls", calls, "marks", marks] => (status, at, calls, marks),
-        _ => return Err(Fault::BadLine),
+        _ => return Err(Fault::BadLine("status S calls C marks M")),
     };
     Ok(Ended {
         line,
@@ -103,7 +107,7 @@ fn objects_of(alloc: Global, words: &[&str]) -> Result<Objects, Fault> {
     let mut objects = BTreeMap::new(alloc);
     for pair in words.chunks(2) {
         let [name, object] = *pair else {
-            return Err(Fault::BadLine);
+            return Err(Fault::BadLine("an object behind each name"));
         };
         objects.insert(bytes_of(alloc, name)?, bytes_of(alloc, object)?)?;
     }
@@ -115,7 +119,7 @@ fn map_of(alloc: Global, words: &[&str]) -> Result<MapIs, Fault> {
         ["empty"] => Ok(MapIs::These(BTreeMap::new(alloc))),
         ["before", "or", "after"] => Ok(MapIs::BeforeOrAfter),
         [_, _, ..] => Ok(MapIs::These(objects_of(alloc, words)?)),
-        _ => Err(Fault::BadLine),
+        _ => Err(Fault::BadLine("map empty, map before or after, or map NAME BYTES ..")),
     }
 }
 
@@ -160,7 +164,7 @@ fn crash_of(words: &[&str]) -> Result<Keep, Fault> {
             zone: number_u16(zone)?,
             bytes: number_u32(bytes)?,
         }),
-        _ => Err(Fault::BadLine),
+        _ => Err(Fault::BadLine("crash firm, crash all or crash short DEVICE ZONE BYTES")),
     }
 }
 
@@ -172,7 +176,11 @@ fn zone_of(alloc: Global, line: usize, words: &[&str]) -> Result<Action, Fault> 
             let bytes = bytes_of(alloc, bytes)?;
             (device, zone, ZoneIs::From { at, bytes })
         }
-        _ => return Err(Fault::BadLine),
+        _ => {
+            return Err(Fault::BadLine(
+                "zone DEVICE ZONE is N blocks, or zone DEVICE ZONE from BYTE is BYTES",
+            ));
+        }
     };
     Ok(Action::Zone {
         line,
@@ -184,7 +192,7 @@ fn zone_of(alloc: Global, line: usize, words: &[&str]) -> Result<Action, Fault> 
 
 fn block_of(alloc: Global, line: usize, words: &[&str]) -> Result<Action, Fault> {
     let [device, zone, bytes] = *words else {
-        return Err(Fault::BadLine);
+        return Err(Fault::BadLine("block DEVICE ZONE BYTES"));
     };
     Ok(Action::Block {
         line,
@@ -220,9 +228,9 @@ fn action_of(alloc: Global, line: usize, words: &[&str]) -> Result<Action, Fault
             [device] => Ok(Action::Lose {
                 device: number_u8(device)?,
             }),
-            _ => Err(Fault::BadLine),
+            _ => Err(Fault::BadLine("lose DEVICE")),
         },
-        _ => Err(Fault::BadLine),
+        _ => Err(Fault::BadLine("a word that may stand outside a run")),
     }
 }
 
@@ -299,7 +307,7 @@ impl Parser {
             return Ok(());
         }
         if !words.is_empty() && !script.take(self.alloc, line, words)? {
-            return Err(Fault::BadLine);
+            return Err(Fault::BadLine("a request, a reply behind =, or the run's status"));
         }
         self.script = Some(script);
         Ok(())
@@ -319,7 +327,7 @@ impl Parser {
             return Ok(());
         }
         if self.row.is_none() {
-            return Err(Fault::BadLine);
+            return Err(Fault::BadLine("array, with which a row begins"));
         }
         if *first == "run" {
             self.script = Some(Script::new(self.alloc, rest)?);
@@ -351,7 +359,7 @@ impl Parser {
     /// The rows that were read. A run without its `status` has no end.
     pub(crate) fn end(mut self) -> Result<Vec<Row>, Fault> {
         if self.script.is_some() {
-            return Err(Fault::BadLine);
+            return Err(Fault::BadLine("status, with which a run ends"));
         }
         self.end_row()?;
         Ok(std::mem::replace(&mut self.rows, Vec::new(self.alloc)))

@@ -13,8 +13,11 @@ use crate::served::served;
 use crate::text::word_of;
 use bay_memory::{Keep, MemoryBay};
 use std::alloc::Global;
-use std::mem;
+use std::{fmt, mem};
 use zone_bay::Bay;
+
+/// All bytes of an append.
+pub(crate) const ALL: u32 = u32::MAX;
 
 /// The status of a bay that can't be opened.
 const NOT_OPENED: u8 = 6;
@@ -25,6 +28,8 @@ pub(crate) struct Difference {
     pub(crate) line: usize,
     pub(crate) wanted: String,
     pub(crate) got: String,
+    /// With which twists it was found, the first one first; empty where the row stands as it is.
+    pub(crate) under: String,
 }
 
 /// How a segment is played.
@@ -37,6 +42,21 @@ pub(crate) enum Twist {
     Stops(u64, u32),
     /// The inputs are cut behind so many bytes.
     Cut(usize),
+}
+
+impl fmt::Display for Twist {
+    fn fmt<W: fmt::Write>(&self, f: &mut fmt::Formatter<W>) -> fmt::Result {
+        match self {
+            Twist::Plain => write!(f, "as it stands"),
+            Twist::Fails(call) => write!(f, "call {call} fails"),
+            Twist::Stops(call, 0) => write!(f, "stopped in call {call}, nothing of it done"),
+            Twist::Stops(call, ALL) => write!(f, "stopped in call {call}, all of an append done"),
+            Twist::Stops(call, bytes) => {
+                write!(f, "stopped in call {call}, {bytes} bytes of an append done")
+            }
+            Twist::Cut(bytes) => write!(f, "the input cut behind byte {bytes}"),
+        }
+    }
 }
 
 /// A call of a run, and whether it was done.
@@ -79,7 +99,13 @@ impl<'a> Player<'a> {
     }
 
     fn differs(&mut self, line: usize, wanted: String, got: String) -> Result<(), Fault> {
-        self.differences.push(Difference { line, wanted, got })?;
+        let under = String::new(self.alloc);
+        self.differences.push(Difference {
+            line,
+            wanted,
+            got,
+            under,
+        })?;
         Ok(())
     }
 

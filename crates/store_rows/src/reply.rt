@@ -15,13 +15,13 @@ pub(crate) const DONE: u8 = 1;
 fn number(word: &str) -> Result<u64, Fault> {
     match word.parse::<u64>() {
         Ok(number) => Ok(number),
-        Err(_) => Err(Fault::BadLine),
+        Err(_) => Err(Fault::BadLine("a refusal's values as numbers")),
     }
 }
 
 fn refused(alloc: Global, why: &str, first: &str, second: &str) -> Result<Vec<u8>, Fault> {
     let Ok(why) = why.parse::<u8>() else {
-        return Err(Fault::BadLine);
+        return Err(Fault::BadLine("a refusal's number from 0 to 255"));
     };
     let first = number(first)?.to_be_bytes();
     let second = number(second)?.to_be_bytes();
@@ -32,7 +32,7 @@ fn names(alloc: Global, names: &[&str], more: &str) -> Result<Vec<u8>, Fault> {
     let more = match more {
         "0" => 0,
         "1" => 1,
-        _ => return Err(Fault::BadLine),
+        _ => return Err(Fault::BadLine("more 0 or more 1")),
     };
     let mut fields = Vec::new(alloc);
     for name in names {
@@ -41,7 +41,7 @@ fn names(alloc: Global, names: &[&str], more: &str) -> Result<Vec<u8>, Fault> {
         fields.extend_from_slice(&name)?;
     }
     let Ok(count) = u16::try_from(names.len()) else {
-        return Err(Fault::BadLine);
+        return Err(Fault::BadLine("65535 names at most"));
     };
     Ok(frame(alloc, 4, &[&[more], &count.to_be_bytes(), &fields])?)
 }
@@ -60,7 +60,9 @@ pub(crate) fn reply_of(alloc: Global, words: &[&str]) -> Result<Vec<u8>, Fault> 
         ["refused", why, first] => refused(alloc, why, first, "0"),
         ["refused", why, first, second] => refused(alloc, why, first, second),
         ["bytes", ..] => joined_hex(alloc, words.get(1..).unwrap_or(&[])),
-        _ => Err(Fault::BadLine),
+        _ => Err(Fault::BadLine(
+            "done, object, notfound, names, refused, bytes or any, with what belongs to it",
+        )),
     }
 }
 

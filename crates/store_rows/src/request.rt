@@ -22,7 +22,7 @@ fn named(alloc: Global, tag: u8, name: &[u8], rest: &[u8]) -> Result<Vec<u8>, Fa
 
 fn list(alloc: Global, after: &[u8], limit: &str) -> Result<Vec<u8>, Fault> {
     let Ok(limit) = limit.parse::<u16>() else {
-        return Err(Fault::BadLine);
+        return Err(Fault::BadLine("a limit from 0 to 65535"));
     };
     named(alloc, 4, after, &limit.to_be_bytes())
 }

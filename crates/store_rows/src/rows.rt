@@ -3,7 +3,7 @@
 use crate::array::{bytes_of, formatted, image_of};
 use crate::fault::Fault;
 use crate::objects::{Objects, apply, copied};
-use crate::play::{Answered, Difference, Player, Twist};
+use crate::play::{ALL, Answered, Difference, Player, Twist};
 use crate::request::Request;
 use crate::row::{Action, Row, Segment, Variation};
 use crate::served::served;
@@ -12,9 +12,6 @@ use std::alloc::Global;
 use std::collections::BTreeMap;
 use std::mem;
 use zone_bay::Bay;
-
-/// All bytes of an append.
-const ALL: u32 = u32::MAX;
 
 /// A row is given up behind so many differences.
 const MANY: usize = 10;
@@ -45,10 +42,27 @@ fn play_all(
         if found.len() >= MANY {
             break;
         }
+        let first = found.len();
         let mut varied = played(alloc, start, segment, twist, maps, found)?;
         let maps = maps_behind(alloc, start, segment, twist, &plain, &varied)?;
         let next = next_bay(alloc, twist, &mut varied)?;
         play_all(alloc, &next, rest, &maps, found)?;
+        note_twist(alloc, twist, first, found)?;
+    }
+    Ok(())
+}
+
+/// Says of all differences but the first that they were found with this twist.
+fn note_twist(
+    alloc: Global,
+    twist: Twist,
+    first: usize,
+    found: &mut Vec<Difference>,
+) -> Result<(), Fault> {
+    for difference in found.iter_mut().skip(first) {
+        let under = difference.under.as_str();
+        let separator = if under.is_empty() { "" } else { ", then " };
+        difference.under = format!(in alloc; "{twist}{separator}{under}")?;
     }
     Ok(())
 }
@@ -65,12 +79,7 @@ fn played<'a>(
     let copy = image_of(alloc, start, Keep::All, &[])?;
     let mut player = Player::new(alloc, copy, twist, maps);
     player.play(segment)?;
-    for mut difference in mem::replace(&mut player.differences, Vec::new(alloc)) {
-        if twist != Twist::Plain {
-            difference
-                .got
-                .push_str(&format!(in alloc; ", with {twist:?}")?)?;
-        }
+    for difference in mem::replace(&mut player.differences, Vec::new(alloc)) {
         found.push(difference)?;
     }
     Ok(player)

@@ -69,7 +69,7 @@ fn pieces_of(alloc: Global, input: &[u8], size: usize, cut: usize) -> Result<Vec
     if pieces.iter().all(|piece| !piece.is_empty()) {
         Ok(pieces)
     } else {
-        Err(Fault::BadLine)
+        Err(Fault::BadLine("pieces with a byte each"))
     }
 }
 

@@ -24,7 +24,7 @@ pub(crate) fn from_hex(alloc: Global, digits: &str) -> Result<Vec<u8>, Fault> {
     match hex::decode(alloc, digits) {
         Ok(bytes) => Ok(bytes),
         Err(hex::FromHexError::OutOfMemory) => Err(Fault::Memory),
-        Err(_) => Err(Fault::BadLine),
+        Err(_) => Err(Fault::BadLine("pairs of hex digits")),
     }
 }
 
@@ -35,7 +35,7 @@ pub(crate) fn bytes_of(alloc: Global, word: &str) -> Result<Vec<u8>, Fault> {
     }
     if let Some(count) = word.strip_prefix('#') {
         let Ok(count) = count.parse::<u32>() else {
-            return Err(Fault::BadLine);
+            return Err(Fault::BadLine("# and a number of bytes"));
         };
         return Ok(pattern(alloc, count)?);
     }
