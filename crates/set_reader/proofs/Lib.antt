@@ -1,0 +1,10 @@
+pub mod CarrierLaws
+pub mod Told
+pub mod LossLaws
+pub mod PlaceLaws
+pub mod RoundLaws
+pub mod CallLaws
+pub mod RowLaws
+pub mod SourceLaws
+pub mod FirstLaws
+pub mod PayloadLaws

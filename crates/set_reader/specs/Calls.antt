@@ -1,0 +1,49 @@
+-- What reading does to a bay and to the table of its devices.
+use Rattle.std.specs.Prelude.{◌≡◌, ℕ, ◌+◌, ◌-◌, true, false, not, length, filter, Option, Some, None, IfSome, Result, Ok, Err}
+use Rattle.smore_base.specs.declared.geometry.Geometry.{Geometry}
+use Rattle.zone_bay.specs.Outside.{Rose}
+use Rattle.zone_bay.specs.Contents.{Shape}
+use Rattle.zone_bay.specs.Bay.{BayState}
+use Rattle.zone_bay.specs.Stretch.{OnlyReads, FailsReading, ReadsAtMost}
+use Rattle.set_table.specs.Table.{Table, is_live}
+
+-- the geometry is the bay's: the last device is the flash
+pub record IsOfBay (g : Geometry) (shape : Shape) : Type 0 where
+  pub devices : g.drives + 1 ≡ shape.devices
+  pub zones : g.zones ≡ shape.zones
+  pub blocks : g.blocks ≡ shape.blocks
+
+-- a device that was live is lost
+abbrev pub Loses : Table → Table → ℕ → Type 0
+Loses t t' d = (is_live t d ≡ true) × (is_live t' d ≡ false)
+
+-- how many devices are live
+abbrev pub live_count : Table → ℕ
+live_count t = length (filter not t.lost)
+
+-- how many were lost
+abbrev pub losses : Table → Table → ℕ
+losses t t' = live_count t - live_count t'
+
+-- Calls only read. A device on which one failed is lost, and no other; it was live before, and its failure is told as one over
+-- what was held. Of the table nothing else changed.
+pub record OnlyReadsBy (t t' : Table) (old new : BayState) : Type 0 where
+  pub table : t' ≡ record t { lost = t'.lost }
+  pub devices : length t'.lost ≡ length t.lost
+  pub stays_lost : (d : ℕ) → is_live t' d ≡ true → is_live t d ≡ true
+  pub bay : OnlyReads old new (λ d _. Loses t t' d)
+  pub rose : (d : ℕ) → Loses t t' d → Rose (old.faults d) (new.faults d)
+  pub over : (d : ℕ) → Loses t t' d → FailsReading d old new
+
+-- Calls only read, so many at most on drives. Where this device is told, its count of faults rose, and a call on it failed over
+-- what was held; no other device failed.
+pub record ReadsUntil (calls : ℕ) (failed : Option ℕ) (old new : BayState) : Type 0 where
+  pub bay : OnlyReads old new (λ d _. failed ≡ Some d)
+  pub rose : IfSome failed (λ d. Rose (old.faults d) (new.faults d))
+  pub over : IfSome failed (λ d. FailsReading d old new)
+  pub few : ReadsAtMost calls old new
+
+-- the device that failed
+abbrev pub failed_by : {T : Type 0} → Result T ℕ → Option ℕ
+failed_by (Ok x) = None
+failed_by (Err device) = Some device

@@ -1,0 +1,4 @@
+pub mod Calls
+pub mod Carriers
+pub mod Record
+pub mod Rows

@@ -1,0 +1,6 @@
+use Rattle.set_writer.specs.Members.{of_members, SpreadsBy}
+use Rattle.marker_format.specs.Block.{foot_block}
+use Rattle.set_writer.proofs.close.put_feet.Given as goal
+
+abbrev pub invariant-loop-index : goal.invariant-loop-index
+invariant-loop-index g l = SpreadsBy (of_members l.index l.foot.set (λ index. foot_block (record l.foot { index = index }))) l.initial.table l.table (g.B.Bay.state l.initial.bay) (g.B.Bay.state l.bay)

@@ -1,0 +1,9 @@
+pub mod Body
+pub mod Calls
+pub mod Entry
+pub mod Fit
+pub mod Inside
+pub mod Laws
+pub mod Members
+pub mod Refusal
+pub mod Writer
