@@ -1,5 +1,3 @@
-use set_table::TooFew;
-use smore_base::Memory;
 use std::fmt;
 
 /// Why a set isn't written.
@@ -24,18 +22,6 @@ pub enum WriteRefusal {
         /// How many members aren't.
         missing: u8,
     },
-}
-
-impl From<Memory> for WriteRefusal {
-    fn from(_: Memory) -> Self {
-        WriteRefusal::Memory
-    }
-}
-
-impl From<TooFew> for WriteRefusal {
-    fn from(few: TooFew) -> Self {
-        WriteRefusal::TooFew { live: few.live }
-    }
 }
 
 impl fmt::Display for WriteRefusal {
