@@ -2,9 +2,9 @@
 use Rattle.std.proofs.Common.{◌≡◌, ℕ, zero, suc, ◌+◌, ◌-◌, ◌*◌, ◌%◌, ◌<◌, Bool, true, false, cond, ◌⊎◌, inl, inr, List, [], ◌∷◌, length, map, take, drop, Option, Some, None, Contains, refl, sym, ap, ap₂, ◌∙◌, subst, arith}
 use Rattle.std.specs.Prelude.{filter, is_some, is_none}
 use Rattle.std.specs.List.{AllByRecursion, find, filter_map, cons_option, range_with_len}
-use Rattle.std.proofs.lemmas.Bool.{true≢false, and_from, le-leb, lt-ltb, eq-eqb, cond-true}
+use Rattle.std.proofs.lemmas.Bool.{true≢false, and_from, eq-eqb, cond-true}
 use Rattle.std.proofs.lemmas.List.{take_all}
-use Rattle.smore_base.specs.Geometry.{IsWithinLimits, first_fault, fits_k, fits_p, fits_drives, fits_zones, fits_blocks, fits_shard}
+use Rattle.smore_base.proofs.GeometryLaws.{within_first}
 use Rattle.smore_base.specs.declared.geometry.Geometry.{Geometry}
 use Rattle.zone_bay.specs.Contents.{Shape, Contents}
 use Rattle.zone_bay.specs.Images.{without_each}
@@ -254,18 +254,6 @@ formatted_is_empty array shape held objects formatted (left, remains, is) =
     is ∙ ap (map_of array.geometry.k) (nothing_read array shape left formatted.fits (labels_left array shape remains.0 held left (formatted_labels array shape held formatted) remains.1))
 
 -- ---- its drives are present
-
-within_first : (g : Geometry) → IsWithinLimits g → first_fault g ≡ None
-within_first g within =
-    cond-true (fits_k g) _ _ (and_from _ _ (le-leb 1 g.k within.k_from) (lt-ltb g.k 20 within.k_to))
-    ∙ cond-true (fits_p g) _ _ (and_from _ _ (le-leb 1 g.p within.p_from) (le-leb (g.k + g.p) 20 within.fragments))
-    ∙ cond-true (fits_drives g) _ _ (and_from _ _ (le-leb (g.k + g.p) g.drives within.drives_from) (le-leb g.drives 24 within.drives_to))
-    ∙ cond-true (fits_zones g) _ _ (and_from _ _ (le-leb 4 g.zones within.zones_from) (le-leb g.zones 4096 within.zones_to))
-    ∙ cond-true (fits_blocks g) _ _ (and_from _ _ (le-leb 128 g.blocks within.blocks_from) (le-leb g.blocks 524288 within.blocks_to))
-    ∙ cond-true (fits_shard g) _ _
-    (and_from _ _
-    (and_from _ _ (and_from _ _ (le-leb 511 g.shard within.shard_from) (le-leb g.shard 65408 within.shard_to)) (eq-eqb (g.shard % 511) 0 within.shard_whole))
-    (le-leb (4 * g.shard) (511 * g.blocks) within.shard_share))
 
 own_label : (array : Array) (shape : Shape) (device : ℕ) → HasShape array shape → is_label_of_bay shape device (label_of array device) ≡ true
 own_label array shape device fits =

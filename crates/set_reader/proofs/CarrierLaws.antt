@@ -1,5 +1,5 @@
 -- The live carriers of a set.
-use Rattle.std.proofs.Common.{◌≡◌, ℕ, zero, suc, ◌+◌, ◌≤◌, Bool, cond, List, [], ◌∷◌, ◌++◌, length, map, filter, Some, None, refl, sym, ap, ap₂, ◌∙◌, subst, arith, add-one, append-nil}
+use Rattle.std.proofs.Common.{◌≡◌, ℕ, zero, suc, ◌+◌, ◌<◌, ◌≤◌, Bool, cond, List, [], ◌∷◌, ◌++◌, length, map, filter, Some, None, refl, sym, ap, ap₂, ◌∙◌, subst, arith, add-one, append-nil}
 use Rattle.std.specs.Prelude.{not}
 use Rattle.std.specs.List.{AllByRecursion, range_with_len}
 use Rattle.std.proofs.lemmas.List.{length-append, length-map, map-append}
@@ -35,15 +35,15 @@ pub record CarriersBelow (t : Table) (set i : ℕ) (members : List Member) : Typ
 pub below_none : (t : Table) (set : ℕ) → CarriersBelow t set 0 []
 below_none t set = record { indexes = refl; each = tt; few = omega arith }
 
-pub below_more : (t : Table) (set i : ℕ) (members : List Member) (m : Member) → length t.zones ≡ t.geometry.drives → m.index ≡ i → TellsCarrier t set i (Some (m.device, m.zone)) → CarriersBelow t set i members → CarriersBelow t set (i + 1) (members ++ m ∷ [])
-below_more t set i members m drives here told below =
+pub below_more : (t : Table) (set i : ℕ) (members : List Member) (m : Member) → length t.zones ≡ t.geometry.drives → i < fragments_of t → m.index ≡ i → TellsCarrier t set i (Some (m.device, m.zone)) → CarriersBelow t set i members → CarriersBelow t set (i + 1) (members ++ m ∷ [])
+below_more t set i members m drives within here told below =
     let carried = carried_where t set i drives (Some (m.device, m.zone)) told refl in
     let parts = map-append carrier_by members (m ∷ []) in
     let all = map-append (λ (c : Carrier). c.index) (carriers_by members) (carrier_by m ∷ []) in
     record {
       indexes = ap (map (λ (c : Carrier). c.index)) parts ∙ all ∙ ap₂ (λ (l : List ℕ) (n : ℕ). l ++ n ∷ []) below.indexes here
           ∙ ap (λ (b : Bool). filter (is_carried t set) (range_with_len 0 i) ++ cond b (i ∷ []) []) (sym carried) ∙ sym (carried_next t set i);
-      each = subst (λ (l : List Carrier). AllByRecursion (IsOneOf t set) l) (sym parts) (all_behind t set (carriers_by members) (carrier_by m) below.each (subst (λ (n : ℕ). IsOneOf t set (record { index = n; place = record { device = m.device; zone = m.zone } })) (sym here) told));
+      each = subst (λ (l : List Carrier). AllByRecursion (IsOneOf t set) l) (sym parts) (all_behind t set (carriers_by members) (carrier_by m) below.each (subst (λ (n : ℕ). IsOneOf t set (record { index = n; place = record { device = m.device; zone = m.zone } })) (sym here) (record { below = within; carrier = told })));
       few = let l = length-append members (m ∷ []) in omega (arith, l, below.few);
     }
 

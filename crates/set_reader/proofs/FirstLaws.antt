@@ -4,7 +4,7 @@ use Rattle.std.specs.Prelude.{nat_le, nat_lt}
 use Rattle.std.specs.List.{AllByRecursion, Contains, range_with_len}
 use Rattle.std.proofs.lemmas.Bool.{and_parts, le-leb, lt-ltb}
 use Rattle.std.proofs.lemmas.List.{length-map, length-take-le, take-map}
-use Rattle.zone_bay.specs.Contents.{Contents, Shape}
+use Rattle.zone_bay.specs.Contents.{Contents, Shape, IsOfBay}
 use Rattle.marker_format.specs.declared.marker.Marker.{Marker}
 use Rattle.rs_code.specs.Fragments.{AreIndexes}
 use Rattle.rs_code.proofs.Indexes.{rises, rising_indexes}
@@ -13,7 +13,6 @@ use Rattle.array_model.specs.Reading.{Carrier}
 use Rattle.set_table.specs.declared.members.Member.{Member}
 use Rattle.set_table.specs.Table.{Table, HangsTogether, is_live, is_carried, fragments_of}
 use Rattle.smore_base.specs.declared.place.Place.{Place}
-use Rattle.set_reader.specs.Calls.{IsOfBay}
 use Rattle.set_reader.specs.Carriers.{carrier_by, carriers_by, IsOneOf, AreCarriers}
 use Rattle.set_reader.specs.Record.{StandsAt, BeginsWith}
 use Rattle.set_reader.specs.Rows.{IsInBay, HasBlocks, given_by, indexes_of, devices_of, sources_from}
@@ -26,7 +25,7 @@ first_all P t set (suc k) (m ∷ members) each all = (each m all.0, first_all P 
 
 pub in_bay : (t : Table) (shape : Shape) (set : ℕ) (m : Member) → HangsTogether t → IsOfBay t.geometry shape → IsOneOf t set (carrier_by m) → IsInBay shape m
 in_bay t shape set m together of_bay is =
-    let zone = together.set_zones m.device m.zone set m.index is.carries in
+    let zone = together.set_zones m.device m.zone set m.index is.carrier.carries in
     let drive = zone.drive in
     let to = zone.to in
     let devices = of_bay.devices in
@@ -36,7 +35,7 @@ in_bay t shape set m together of_bay is =
 -- the blocks of the record that stands on it
 pub has_blocks : (t : Table) (set block f : ℕ) (marker : Marker) (held : Contents) (m : Member) → StandsAt t set block marker held → marker.fragment ≡ f → IsOneOf t set (carrier_by m) → HasBlocks held block f m
 has_blocks t set block f marker held m stands long is =
-    let has = stands m.index m.device m.zone is in
+    let has = stands m.index m.device m.zone is.below is.carrier in
     let within = has.whole.within in
     let same : has.own.fragment ≡ f = ap (λ (x : Marker). x.fragment) has.same ∙ long in
     subst (λ (n : ℕ). 512 * (block + 1 + Rattle.marker_format.specs.Fragment.blocks_of n) ≤ length (held m.device m.zone)) same (omega (arith, within))
@@ -85,7 +84,7 @@ no_member : Member
 no_member = record { index = 0; device = 0; zone = 0 }
 
 pub devices_are_live : (t : Table) (set k d : ℕ) (members : List Member) → AllByRecursion (IsOneOf t set) (carriers_by members) → Contains (devices_of (take k members)) d → is_live t d ≡ true
-devices_are_live t set k d members each has = at (take k members) (first_all (λ m. is_live t m.device ≡ true) t set k members (λ m is. is.live) each) has
+devices_are_live t set k d members each has = at (take k members) (first_all (λ m. is_live t m.device ≡ true) t set k members (λ m is. is.carrier.live) each) has
   where
     at : (members : List Member) → AllByRecursion (λ m. is_live t m.device ≡ true) members → Contains (devices_of members) d → is_live t d ≡ true
     at [] all has = let below = has.1 in absurd (omega (arith, below))

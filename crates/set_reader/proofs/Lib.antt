@@ -4,7 +4,10 @@ pub mod LossLaws
 pub mod PlaceLaws
 pub mod RoundLaws
 pub mod CallLaws
+pub mod AttemptLaws
 pub mod RowLaws
 pub mod SourceLaws
 pub mod FirstLaws
 pub mod PayloadLaws
+pub mod WrittenLaws
+pub mod KeepLaws

@@ -9,9 +9,9 @@ use Rattle.zone_bay.specs.Stretch.{FailsReading}
 use Rattle.zone_bay.specs.Outside.{Rose}
 use Rattle.zone_bay.proofs.Stretch.{reads_nothing, reads_join, reads_weaker, fails_over_stays}
 use Rattle.zone_bay.proofs.Calls.{fails_reading_then}
-use Rattle.set_table.specs.Table.{Table, is_live}
+use Rattle.set_table.specs.Table.{Table, is_live, Loses}
 use Rattle.set_reader.proofs.Told.{told_at, told_from}
-use Rattle.set_reader.specs.Calls.{Loses, live_count, OnlyReadsBy, ReadsUntil}
+use Rattle.set_reader.specs.Calls.{live_count, OnlyReadsBy, ReadsUntil}
 
 -- the table without a device
 abbrev pub lost_of : Table → ℕ → Table

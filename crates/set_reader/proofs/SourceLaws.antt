@@ -3,7 +3,7 @@ use Rattle.std.proofs.Common.{◌≡◌, ℕ, zero, suc, ◌+◌, ◌-◌, ◌*�
 use Rattle.std.specs.Prelude.{slice_index, nat_eq}
 use Rattle.std.specs.List.{AllByRecursion, IsDistinct, flat_map, range_with_len}
 use Rattle.std.proofs.lemmas.Bool.{cases_lt}
-use Rattle.std.proofs.lemmas.List.{take_at, drop_at, drop-drop, take_more, take_more_set, get_or-map, length-append, length-take, length-drop, length-map, map-append, nil_from_length, take-append-drop, take-append-le, take-take, drop-take, get_or_append_left, get_or-append-add, get_or_past}
+use Rattle.std.proofs.lemmas.List.{take_at, drop_at, drop-drop, take_more, take_more_set, get_or-map, length-append, length-take, length-drop, length-map, map-append, take-append-le, take-take, drop-take, get_or_append_left, get_or-append-add, get_or_past}
 use Rattle.std.proofs.lemmas.List.Elements.{recursion_from_All}
 use Rattle.std.proofs.lemmas.Grind.{div_ceil_times}
 use Rattle.zone_bay.specs.Contents.{Contents}
@@ -16,6 +16,7 @@ use Rattle.array_model.specs.Payload as model
 use Rattle.array_model.specs.Payload.{Fragment, fragment_from}
 use Rattle.array_model.proofs.Payloads.{fragment_is}
 use Rattle.set_table.specs.declared.members.Member.{Member}
+use Rattle.set_writer.proofs.ByteLaws.{joined_pieces}
 use Rattle.set_reader.specs.Rows.{HasBlocks, fragment_on, rows_of, given_by, indexes_of, sources_from, AreSources, space_of}
 
 -- ---- indexes
@@ -83,19 +84,6 @@ module _ (held : Contents) (block f : ℕ) where
       )
 
 -- ---- all source fragments
-
--- bytes are what their pieces are
-pub joined_pieces : (k f from : ℕ) (g : ℕ → List ℕ) (bytes : List ℕ) → length bytes ≡ k * f → ((i : ℕ) → i < k → piece bytes f i ≡ g (from + i)) → bytes ≡ flat_map g (range_with_len from k)
-joined_pieces zero f from g bytes size each = nil_from_length bytes (let e : 0 * f ≡ 0 = omega arith in size ∙ e)
-joined_pieces (suc k) f from g bytes size each =
-    let first : take f bytes ≡ g from =
-    ap (λ j. take f (drop j bytes)) (let e : 0 ≡ 0 * f = omega arith in e) ∙ each 0 (omega arith) ∙ ap g (let e : from + 0 ≡ from = omega arith in e) in
-    let left : length (drop f bytes) ≡ k * f = length-drop f bytes ∙ ap (λ j. j - f) size ∙ (let e : suc k * f - f ≡ k * f = grind arith in e) in
-    let rest : drop f bytes ≡ flat_map g (range_with_len (from + 1) k) = joined_pieces k f (from + 1) g (drop f bytes) left (λ i below.
-    ap (take f) (drop-drop (i * f) f bytes ∙ ap (λ j. drop j bytes) (let e : f + i * f ≡ suc i * f = omega arith in e))
-    ∙ each (suc i) (omega (arith, below))
-    ∙ ap g (let e : from + suc i ≡ from + 1 + i = omega arith in e)) in
-    sym (take-append-drop f bytes) ∙ ap₂ (λ (a b : List ℕ). a ++ b) first rest
 
 module _ (k n f block : ℕ) (held : Contents) (members : List Member) (rows : List ℕ) (fits : k ≤ n) (few : n ≤ 256) (indexes : AreIndexes k n (indexes_of members))
     (has : AllByRecursion (HasBlocks held block f) members) (is : rows ≡ rows_of held block f members) (bytes : (i : ℕ) → IsByte (get_or rows i 0)) where

@@ -1,21 +1,9 @@
 -- What reading does to a bay and to the table of its devices.
-use Rattle.std.specs.Prelude.{◌≡◌, ℕ, ◌+◌, ◌-◌, true, false, not, length, filter, Option, Some, None, IfSome, Result, Ok, Err}
-use Rattle.smore_base.specs.declared.geometry.Geometry.{Geometry}
+use Rattle.std.specs.Prelude.{◌≡◌, ◌⊎◌, ℕ, ◌+◌, ◌-◌, ◌≤◌, true, not, length, filter, Option, Some, None, IfSome, Result, Ok, Err}
 use Rattle.zone_bay.specs.Outside.{Rose}
-use Rattle.zone_bay.specs.Contents.{Shape}
 use Rattle.zone_bay.specs.Bay.{BayState}
 use Rattle.zone_bay.specs.Stretch.{OnlyReads, FailsReading, ReadsAtMost}
-use Rattle.set_table.specs.Table.{Table, is_live}
-
--- the geometry is the bay's: the last device is the flash
-pub record IsOfBay (g : Geometry) (shape : Shape) : Type 0 where
-  pub devices : g.drives + 1 ≡ shape.devices
-  pub zones : g.zones ≡ shape.zones
-  pub blocks : g.blocks ≡ shape.blocks
-
--- a device that was live is lost
-abbrev pub Loses : Table → Table → ℕ → Type 0
-Loses t t' d = (is_live t d ≡ true) × (is_live t' d ≡ false)
+use Rattle.set_table.specs.Table.{Table, is_live, Loses}
 
 -- how many devices are live
 abbrev pub live_count : Table → ℕ
@@ -35,13 +23,29 @@ pub record OnlyReadsBy (t t' : Table) (old new : BayState) : Type 0 where
   pub rose : (d : ℕ) → Loses t t' d → Rose (old.faults d) (new.faults d)
   pub over : (d : ℕ) → Loses t t' d → FailsReading d old new
 
--- Calls only read, so many at most on drives. Where this device is told, its count of faults rose, and a call on it failed over
--- what was held; no other device failed.
+-- No more than so many calls were made, and no more than so many of them read a drive.
+pub record CallsAtMost (n : ℕ) (old new : BayState) : Type 0 where
+  pub calls : new.moment ≤ old.moment + n
+  pub reads : ReadsAtMost n old new
+
+-- The device failed in the last of the calls, and in none before it.
+pub record FailsLast (device : ℕ) (old new : BayState) : Type 0 where
+  pub moment : ℕ
+  pub since : old.moment ≤ moment
+  pub before : moment ≤ new.moment
+  pub failed : new.failed device moment
+  pub last : new.moment ≤ moment + 1
+  -- failures that are told since are those of this call, or of moments behind it
+  pub alone : (d m : ℕ) → new.failed d m → old.failed d m ⊎ (new.moment ≤ m + 1)
+
+-- Calls only read, and are so many at most. Where this device is told, its count of faults rose, and a call on it failed over
+-- what was held, behind which no call was made; no other device failed.
 pub record ReadsUntil (calls : ℕ) (failed : Option ℕ) (old new : BayState) : Type 0 where
   pub bay : OnlyReads old new (λ d _. failed ≡ Some d)
   pub rose : IfSome failed (λ d. Rose (old.faults d) (new.faults d))
   pub over : IfSome failed (λ d. FailsReading d old new)
-  pub few : ReadsAtMost calls old new
+  pub last : IfSome failed (λ d. FailsLast d old new)
+  pub few : CallsAtMost calls old new
 
 -- the device that failed
 abbrev pub failed_by : {T : Type 0} → Result T ℕ → Option ℕ

@@ -3,14 +3,9 @@ use Rattle.std.specs.Prelude.{◌≡◌, ℕ, ◌<◌, ◌≤◌, List, length, 
 use Rattle.std.specs.List.{AllByRecursion, range_with_len}
 use Rattle.set_table.specs.declared.members.Member.{Member}
 use Rattle.set_table.specs.Table.{Table, IsCarrier, fragments_of, is_carried, missing_of}
-use Rattle.marker_format.specs.Zone.{Array}
 use Rattle.array_model.specs.Reading.{Carrier}
 use Rattle.set_reader.specs.declared.refusal.ReadRefusal.{ReadRefusal}
 use Rattle.set_reader.specs.declared.refusal.ReadRefusal.TheVariants.{Memory, TooFewFragments}
-
--- what a table's labels say of its zones
-abbrev pub array_of : Table → Array
-array_of t = record { geometry = t.geometry; id = t.array }
 
 -- the zone of a member, which carries its index
 abbrev pub carrier_by : Member → Carrier
@@ -19,9 +14,10 @@ carrier_by m = record { index = m.index; place = record { device = m.device; zon
 abbrev pub carriers_by : List Member → List Carrier
 carriers_by members = map carrier_by members
 
--- the zone is that of a live drive, and carries the index of the set
-abbrev pub IsOneOf : Table → ℕ → Carrier → Type 0
-IsOneOf t set c = IsCarrier t set c.index c.place.device c.place.zone
+-- The zone is that of a live drive, and carries the index of the set, which is that of a fragment.
+pub record IsOneOf (t : Table) (set : ℕ) (c : Carrier) : Type 0 where
+  pub below : c.index < fragments_of t
+  pub carrier : IsCarrier t set c.index c.place.device c.place.zone
 
 -- These are the live carriers of the set: of each index that a live drive carries, by rising index.
 pub record AreCarriers (t : Table) (set : ℕ) (cs : List Carrier) : Type 0 where

@@ -1,15 +1,16 @@
 -- A record that stands on the carriers of its set, and what is read of it.
-use Rattle.std.specs.Prelude.{◌≡◌, ℕ, ◌*◌, ◌≤◌, List, ◌++◌, length, map, take, Result, Ok, Err}
+use Rattle.std.specs.Prelude.{◌≡◌, ℕ, ◌*◌, ◌<◌, ◌≤◌, List, ◌++◌, length, map, take, Result, Ok, Err}
 use Rattle.std.specs.Int.{div_ceil}
 use Rattle.smore_base.specs.declared.place.Place.{Place}
 use Rattle.zone_bay.specs.Contents.{Contents}
 use Rattle.marker_format.specs.declared.marker.Marker.{Marker}
 use Rattle.marker_format.specs.Zone.{Array, IsWhole}
 use Rattle.array_model.specs.Reading.{Carrier, aside, fragment_on, payload_of}
-use Rattle.set_table.specs.Table.{Table, IsCarrier, missing_of}
+use Rattle.set_table.specs.Table.{Table, IsCarrier, fragments_of, missing_of}
 use Rattle.set_reader.specs.declared.refusal.ReadRefusal.{ReadRefusal}
 use Rattle.set_reader.specs.declared.lengths.Lengths.{Lengths}
-use Rattle.set_reader.specs.Carriers.{array_of, AreCarriers, Refuses}
+use Rattle.set_writer.specs.Members.{array_of}
+use Rattle.set_reader.specs.Carriers.{AreCarriers, Refuses}
 use Rattle.set_reader.specs.Rows.{sources_from}
 
 -- The zone has a whole record with this marker at the block, but for the index and a head's rebuilt mark.
@@ -20,7 +21,7 @@ pub record HasRecord (array : Array) (bytes : List ℕ) (block : ℕ) (m : Marke
 
 -- The record with this marker stands at the block in the zone of each live carrier of the set.
 abbrev pub StandsAt : Table → ℕ → ℕ → Marker → Contents → Type 0
-StandsAt t set block m held = (index d z : ℕ) → IsCarrier t set index d z → HasRecord (array_of t) (held d z) block m
+StandsAt t set block m held = (index d z : ℕ) → index < fragments_of t → IsCarrier t set index d z → HasRecord (array_of t) (held d z) block m
 
 -- a record stands at the place
 abbrev pub HasRecordAt : Table → Place → Contents → Type 0

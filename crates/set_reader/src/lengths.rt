@@ -1,11 +1,13 @@
 //! How many bytes a record has, from its marker.
 ghost use Rattle.std.specs.Prelude.{◌≡◌, ◌+◌, ◌*◌, ◌<◌, ◌≤◌, length, IfSome, IfNone, IfOk, IfErr, OnOk};
+ghost use Rattle.zone_bay.specs.Contents.{IsOfBay};
 ghost use Rattle.smore_base.specs.declared.limits.TheConstants.{BLOCK_BYTES, MAX_BLOCKS, MAX_SHARD_BYTES};
-ghost use Rattle.zone_bay.specs.Stretch.{ReadsAtMost};
 ghost use Rattle.marker_format.specs.Zone.{block_at};
 ghost use Rattle.marker_format.specs.Marker.{IsMarker};
 ghost use Rattle.marker_format.specs.Block.{marker_in_block};
-ghost use Rattle.set_reader.specs.Calls.{IsOfBay, ReadsUntil, failed_by, OnlyReadsBy, live_count, losses};
+ghost use Rattle.set_writer.specs.Rounds.{point_at};
+ghost use Rattle.set_reader.specs.Attempts.{Answered, Attempts, Failed};
+ghost use Rattle.set_reader.specs.Calls.{CallsAtMost, ReadsUntil, failed_by, OnlyReadsBy, live_count, losses};
 ghost use Rattle.set_reader.specs.Carriers.{HasEnough, Refuses};
 ghost use Rattle.set_reader.specs.Record.{HasRecordAt, TellsLengths};
 ghost use Rattle.set_reader.specs.Rows.{IsInBay};
@@ -61,7 +63,13 @@ fn try_lengths<B: Bay>(
     ensures lost { IfOk result (λ told. IfNone told (live_count table.new < live_count table.old)) }
     ensures refused { IfErr result (Refuses table.new place.now.set) }
     ensures reads { OnlyReadsBy table.old table.new (B.state bay.old) (B.state bay.new) }
-    ensures once { ReadsAtMost 1 (B.state bay.old) (B.state bay.new) }
+    ensures once { CallsAtMost 1 (B.state bay.old) (B.state bay.new) }
+    ensures answered { IfOk result (λ told. IfSome told (λ _. Answered 1
+        (point_at table.old (B.state bay.old)) (point_at table.new (B.state bay.new)))) }
+    ensures failed { IfOk result (λ told. IfNone told (Failed 1 (B.state bay.new).failed
+        (point_at table.old (B.state bay.old)) (point_at table.new (B.state bay.new)))) }
+    ensures given_up { IfErr result (λ _. Answered 1
+        (point_at table.old (B.state bay.old)) (point_at table.new (B.state bay.new))) }
     ensures some { 1 ≤ table.old.geometry.k }
 {
     let members = enough_carriers(table, place.set)?;
@@ -93,7 +101,9 @@ pub(crate) fn read_lengths<B: Bay>(
     ensures enough { OnOk result (HasEnough table.new place.now.set) }
     ensures refused { IfErr result (Refuses table.new place.now.set) }
     ensures reads { OnlyReadsBy table.old table.new (B.state bay.old) (B.state bay.new) }
-    ensures few { ReadsAtMost (1 + losses table.old table.new) (B.state bay.old) (B.state bay.new) }
+    ensures few { CallsAtMost (1 + losses table.old table.new) (B.state bay.old) (B.state bay.new) }
+    ensures attempts { Attempts 1 (B.state bay.new).failed
+        (point_at table.old (B.state bay.old)) (point_at table.new (B.state bay.new)) }
     ensures some { 1 ≤ table.old.geometry.k }
 {
     loop {

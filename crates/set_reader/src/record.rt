@@ -1,7 +1,9 @@
 ghost use Rattle.std.specs.Prelude.{◌≡◌, ◌+◌, ◌*◌, ◌<◌, ◌≤◌, true, false, length, take, drop, IfSome, IfOk, IfErr, OnOk, OnErr};
+ghost use Rattle.zone_bay.specs.Contents.{IsOfBay};
 ghost use Rattle.smore_base.specs.declared.limits.TheConstants.{MAX_SHARD_BYTES};
-ghost use Rattle.zone_bay.specs.Stretch.{ReadsAtMost};
-ghost use Rattle.set_reader.specs.Calls.{IsOfBay, OnlyReadsBy, live_count, losses};
+ghost use Rattle.set_writer.specs.Rounds.{point_at};
+ghost use Rattle.set_reader.specs.Attempts.{Answered, Attempts, Failed, ReadsInAttempts};
+ghost use Rattle.set_reader.specs.Calls.{CallsAtMost, OnlyReadsBy, live_count, losses};
 ghost use Rattle.set_reader.specs.Carriers.{HasEnough, Refuses};
 ghost use Rattle.set_reader.specs.Record.{HasRecordAt, HasFragmentsAt, BeginsWithSources, Appends, Answers};
 ghost use Rattle.set_reader.specs.Rows.{space_of};
@@ -49,7 +51,13 @@ fn try_sources<B: Bay>(
     ensures lost { IfOk result (λ done. done ≡ false → live_count table.new < live_count table.old) }
     ensures refused { IfErr result (Refuses table.new place.now.set) }
     ensures reads { OnlyReadsBy table.old table.new (B.state bay.old) (B.state bay.new) }
-    ensures few { ReadsAtMost table.old.geometry.k (B.state bay.old) (B.state bay.new) }
+    ensures few { CallsAtMost table.old.geometry.k (B.state bay.old) (B.state bay.new) }
+    ensures answered { IfOk result (λ done. done ≡ true → Answered table.old.geometry.k
+        (point_at table.old (B.state bay.old)) (point_at table.new (B.state bay.new))) }
+    ensures failed { IfOk result (λ done. done ≡ false → Failed table.old.geometry.k (B.state bay.new).failed
+        (point_at table.old (B.state bay.old)) (point_at table.new (B.state bay.new))) }
+    ensures given_up { IfErr result (λ _. Answered table.old.geometry.k
+        (point_at table.old (B.state bay.old)) (point_at table.new (B.state bay.new))) }
 {
     let members = enough_carriers(table, place.set)?;
     let geometry = *table.geometry();
@@ -98,7 +106,9 @@ fn read_sources<B: Bay>(
     ensures enough { OnOk result (HasEnough table.new place.now.set) }
     ensures refused { IfErr result (Refuses table.new place.now.set) }
     ensures reads { OnlyReadsBy table.old table.new (B.state bay.old) (B.state bay.new) }
-    ensures few { ReadsAtMost (table.old.geometry.k * (1 + losses table.old table.new)) (B.state bay.old) (B.state bay.new) }
+    ensures few { CallsAtMost (table.old.geometry.k * (1 + losses table.old table.new)) (B.state bay.old) (B.state bay.new) }
+    ensures attempts { Attempts table.old.geometry.k (B.state bay.new).failed
+        (point_at table.old (B.state bay.old)) (point_at table.new (B.state bay.new)) }
 {
     loop {
         if try_sources(bay, table, place, f, from, out)? {
@@ -122,8 +132,9 @@ fn append_payload<B: Bay>(
     ensures kept { take (length out.old.items) out.new.items ≡ out.old.items }
     ensures answer { Answers table.new place.now.set result }
     ensures reads { OnlyReadsBy table.old table.new (B.state bay.old) (B.state bay.new) }
-    ensures few { ReadsAtMost (1 + table.old.geometry.k * (1 + losses table.old table.new))
+    ensures few { CallsAtMost (1 + table.old.geometry.k * (1 + losses table.old table.new))
         (B.state bay.old) (B.state bay.new) }
+    ensures attempts { ReadsInAttempts table.old table.new place.now (B.state bay.old) (B.state bay.new) }
 {
     let from = out.len();
     let lengths = read_lengths(bay, table, place)?;
@@ -150,8 +161,9 @@ pub fn read_record<B: Bay>(
     ensures kept { OnErr result (out.new.items ≡ out.old.items) }
     ensures answer { Answers table.new place.now.set result }
     ensures reads { OnlyReadsBy table.old table.new (B.state bay.old) (B.state bay.new) }
-    ensures few { ReadsAtMost (1 + table.old.geometry.k * (1 + losses table.old table.new))
+    ensures few { CallsAtMost (1 + table.old.geometry.k * (1 + losses table.old table.new))
         (B.state bay.old) (B.state bay.new) }
+    ensures attempts { ReadsInAttempts table.old table.new place.now (B.state bay.old) (B.state bay.new) }
 {
     let from = out.len();
     let answer = append_payload(bay, table, place, out);

@@ -117,6 +117,10 @@ without set index zones = map (map (forgets set index)) zones
 abbrev pub is_live : Table → ℕ → Bool
 is_live t d = not (slice_index_or t.lost d true)
 
+-- a device that was live is lost
+abbrev pub Loses : Table → Table → ℕ → Type 0
+Loses t t' d = (is_live t d ≡ true) × (is_live t' d ≡ false)
+
 -- ---- carriers
 
 -- A zone of a live drive carries the index of the set; no other zone carries it.

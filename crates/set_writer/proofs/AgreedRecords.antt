@@ -36,7 +36,7 @@ members_have_records w es t held d z index array fits below live is =
 
 -- ---- what is left of a zone
 
-zone_all : (b : Bool) (w : Writer) (es : List Entry) (index : ℕ) → w.is_closed ≡ b → index < w.geometry.k + w.geometry.p → Wrote w es → begun (array_by w) (zone_bytes w es index) ≡ markers_at index (es ++ cond b (digest (written w w.set es)) [])
+pub zone_all : (b : Bool) (w : Writer) (es : List Entry) (index : ℕ) → w.is_closed ≡ b → index < w.geometry.k + w.geometry.p → Wrote w es → begun (array_by w) (zone_bytes w es index) ≡ markers_at index (es ++ cond b (digest (written w w.set es)) [])
 zone_all true w es index is below wrote = (closed_zone w es index below is wrote).2
 zone_all false w es index is below wrote = zone_begun w es index below is wrote ∙ ap (markers_at index) (sym (append-nil es))
 
@@ -59,7 +59,7 @@ cut_zone_has_first n w es index below wrote =
 -- ---- all of them
 
 -- the same marker in two zones
-agree_on : (i j : ℕ) (m : Marker) → agree (at_index i m) (at_index j m) ≡ true
+pub agree_on : (i j : ℕ) (m : Marker) → agree (at_index i m) (at_index j m) ≡ true
 agree_on i j m = same_bytes (alike (at_index i m))
 
 common_all : (i j : ℕ) (es : List Entry) → common (markers_at i es) (markers_at j es) ≡ markers_at i es

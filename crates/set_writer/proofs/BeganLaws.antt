@@ -3,7 +3,7 @@ use Rattle.std.proofs.Common.{◌≡◌, ℕ, suc, ◌+◌, ◌<◌, ◌≤◌, 
 use Rattle.std.proofs.lemmas.List.{append-nil, take_more}
 use Rattle.smore_base.specs.Geometry.{IsWithinLimits}
 use Rattle.marker_format.specs.declared.marker.TheConstants.{COUNTER_END}
-use Rattle.zone_bay.specs.Contents.{Contents}
+use Rattle.zone_bay.specs.Contents.{Contents, Lengths, IsOfBay}
 use Rattle.zone_bay.specs.Bay.{BayState, IsSound}
 use Rattle.marker_format.specs.Zone.{Array}
 use Rattle.set_table.specs.declared.zone_use.ZoneUse.{ZoneUse}
@@ -12,7 +12,7 @@ use Rattle.set_table.specs.Table.{Table, use_at, is_live, fragments_of}
 use Rattle.set_writer.specs.declared.first.First.{First}
 use Rattle.set_writer.specs.declared.first.First.TheVariants.{Opens, Keeps, IsReady}
 use Rattle.set_writer.specs.Entry.{Entry, entry_bytes, entries_bytes}
-use Rattle.set_writer.specs.Members.{IsOfBay, of_members, GrowsBy, Grows, Spreads, Flushes, is_member, AllFirm, MembersFirm, HoldBlocks, array_of}
+use Rattle.set_writer.specs.Members.{of_members, GrowsBy, Grows, Spreads, Flushes, is_member, HasZone, AllFirm, OthersStay, MembersFirm, HoldBlocks, array_of}
 use Rattle.set_writer.specs.Writer.{Writer, array_by, begun, behind, written, first_marker, first_record, cuts_from, headed, opening, IsRecordAt}
 use Rattle.set_writer.specs.Calls.{IsOf, IsCuts, MayBegin, Began}
 use Rattle.set_writer.proofs.MemberCalls.{grows_none, grows_then, flush_grows}
@@ -217,3 +217,18 @@ pub firm_after : (set' : ℕ) (t t' : Table) (old new : BayState) → Flushes se
 firm_after set' t t' old new flushed =
     let count : fragments_of t' ≡ fragments_of t = ap (λ (s : Table). s.geometry.k + s.geometry.p) flushed.table in
     subst (λ n. AllFirm (is_member n set') t' new) (sym count) flushed.firm
+
+-- a device that has a member had one before devices were lost
+pub has_before : (set' : ℕ) (t t' : Table) (d : ℕ) → t' ≡ record t { lost = t'.lost } → ((e : ℕ) → is_live t' e ≡ true → is_live t e ≡ true) → HasZone (is_member (fragments_of t') set') t' d → HasZone (is_member (fragments_of t) set') t d
+has_before set' t t' d table stays has = record {
+  live = stays d has.live;
+  zone = has.zone;
+  passes = let passes : is_member (fragments_of t) set' (use_at t.zones d has.zone) ≡ true = subst (λ (s : Table). is_member (fragments_of s) set' (use_at s.zones d has.zone) ≡ true) table has.passes in passes;
+}
+
+-- calls behind which nothing more is firm, and a flush
+pub flushed_others : (set' : ℕ) (t t' t'' : Table) (old mid new : BayState) → t' ≡ record t { lost = t'.lost } → ((e : ℕ) → is_live t' e ≡ true → is_live t e ≡ true) → OthersStay set' t old mid → Flushes set' t' t'' mid new → OthersStay set' t old new
+flushed_others set' t t' t'' old mid new table stays others flushed d z none = flushed.others d z (λ (has : HasZone (is_member (fragments_of t') set') t' d). none (has_before set' t t' d table stays has)) ∙ others d z none
+
+pub still_others : (set' : ℕ) (t : Table) (old mid new : BayState) → new.firm ≡ mid.firm → OthersStay set' t old mid → OthersStay set' t old new
+still_others set' t old mid new firm others d z none = ap (λ (f : Lengths). f d z) firm ∙ others d z none

@@ -12,7 +12,7 @@ use Rattle.set_table.proofs.UseLaws.{is_carrier_of}
 use Rattle.set_writer.specs.Fit.{has_enough}
 
 -- one that passes
-any_zone : (f : ZoneUse → Bool) (us : List ZoneUse) → list_any f us ≡ true → (z : ℕ) × (f (get_or us z Taken) ≡ true)
+pub any_zone : (f : ZoneUse → Bool) (us : List ZoneUse) → list_any f us ≡ true → (z : ℕ) × (f (get_or us z Taken) ≡ true)
 any_zone f [] is = absurd (both_ways false refl is)
 any_zone f (u ∷ us) is = at (f u) refl is (any_zone f us)
   where

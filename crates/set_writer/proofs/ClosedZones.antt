@@ -61,7 +61,7 @@ markers-append : (index : ℕ) (es : List Entry) (e : Entry) → markers_at inde
 markers-append index [] e = refl
 markers-append index (x ∷ es) e = ap (λ (l : List Marker). at_index index x.marker ∷ l) (markers-append index es e)
 
-markers-join : (index : ℕ) (es more : List Entry) → markers_at index (es ++ more) ≡ markers_at index es ++ markers_at index more
+pub markers-join : (index : ℕ) (es more : List Entry) → markers_at index (es ++ more) ≡ markers_at index es ++ markers_at index more
 markers-join index [] more = refl
 markers-join index (x ∷ es) more = ap (λ (l : List Marker). at_index index x.marker ∷ l) (markers-join index es more)
 
@@ -92,11 +92,11 @@ digests w index (suc n) bytes ms b can below last_is before fill within =
 
 -- ---- nothing follows the last of them
 
-Stand-behind : (array : Array) (bytes : List ℕ) (before : Option Marker) (block : ℕ) (ms : List Marker) (m : Marker) (more : List Marker) → Stand array bytes before block (ms ++ m ∷ more) → IsWhole array bytes (end_from block ms) m × (may_stand (last_or before ms) m ≡ true)
+pub Stand-behind : (array : Array) (bytes : List ℕ) (before : Option Marker) (block : ℕ) (ms : List Marker) (m : Marker) (more : List Marker) → Stand array bytes before block (ms ++ m ∷ more) → IsWhole array bytes (end_from block ms) m × (may_stand (last_or before ms) m ≡ true)
 Stand-behind array bytes before block [] m more stand = (stand.0, stand.1)
 Stand-behind array bytes before block (x ∷ ms) m more stand = Stand-behind array bytes (Some x) (block + blocks_of x) ms m more stand.2
 
-digest_counts : (kind : Kind) (m : Marker) → code_of kind ≡ 7 → Counts kind m → m.part < m.parts
+pub digest_counts : (kind : Kind) (m : Marker) → code_of kind ≡ 7 → Counts kind m → m.part < m.parts
 digest_counts kinds.Digest m is counts = counts.0
 digest_counts kinds.Head m is counts = absurd (omega (arith, is))
 digest_counts kinds.Part m is counts = absurd (omega (arith, is))
@@ -124,7 +124,7 @@ none_follows w index n b m all before is stands =
 
 -- ---- the foot
 
-length-foot_block : (f : Foot) → length (foot_block f) ≡ 512
+pub length-foot_block : (f : Foot) → length (foot_block f) ≡ 512
 unfolding block_of
 length-foot_block f = omega (arith, length-spelling f, length-append (foot.spelling_of f) (replicate (511 - length (foot.spelling_of f)) 0), length-replicate {A = ℕ} (511 - length (foot.spelling_of f)) 0)
 
@@ -137,7 +137,7 @@ first_of : (w : Writer) (index block p : ℕ) → first_digest block (markers_at
 first_of w index block p = refl
 
 -- the last of some records
-last_of : (array : Array) (w : Writer) (position index : ℕ) (e : Entry) (es : List Entry) (before : Option Marker) → AreRecordsFrom array w.set position (e ∷ es) → w.records ≡ position + length (e ∷ es) → (b : Marker) × (last_or before (markers_at index (e ∷ es)) ≡ Some b) × PartBefore w index 0 b
+pub last_of : (array : Array) (w : Writer) (position index : ℕ) (e : Entry) (es : List Entry) (before : Option Marker) → AreRecordsFrom array w.set position (e ∷ es) → w.records ≡ position + length (e ∷ es) → (b : Marker) × (last_or before (markers_at index (e ∷ es)) ≡ Some b) × PartBefore w index 0 b
 last_of array w position index e [] before are count = (at_index index e.marker, refl, record { set_is = are.0.set_is; index_is = refl; next = (let p = are.0.position_is in omega (arith, p, count)); part_is = are.0.no_digest })
 last_of array w position index e (x ∷ es) before are count = last_of array w (position + 1) index x es (Some (at_index index e.marker)) are.1 (omega (arith, count))
 
@@ -189,6 +189,10 @@ module _ (w : Writer) (e : Entry) (es : List Entry) (index : ℕ) (can : CanDige
     pub whole_is : whole_records (array_by w) (full_bytes (suc p) ++ foot_bytes w index) ≡ marks (suc p)
     whole_is = whole_records-first (array_by w) (full_bytes (suc p) ++ foot_bytes w index) (ap is_rebuilt begun_is ∙ ne_eqb e.marker.part 1 (λ one. let zero_ = are.0.first_zone refl in omega (arith, one, zero_))) ∙ begun_is
 
+    -- and its block is the last of the zone
+    pub length_is : 512 * end_from 0 (marks (suc p)) + 512 ≡ length (full_bytes (suc p) ++ foot_bytes w index)
+    length_is = let full = it.fill.full in omega (arith, full, length-append (full_bytes (suc p)) (foot_bytes w index), length-foot_block (foot_at w index))
+
     block_is : end_from 0 (markers_at index (e ∷ es)) ≡ w.used
     block_is =
         let full = records_of.full in
@@ -230,11 +234,13 @@ module _ (w : Writer) (e : Entry) (es : List Entry) (index : ℕ) (can : CanDige
 pub closed_zone : (w : Writer) (es : List Entry) (index : ℕ) → index < w.geometry.k + w.geometry.p → w.is_closed ≡ true → Wrote w es
     → (whole_records (array_by w) (zone_bytes w es index) ≡ markers_at index (es ++ digest (written w w.set es))) × (has_foot (array_by w) (zone_bytes w es index) ≡ true)
     × (begun (array_by w) (zone_bytes w es index) ≡ markers_at index (es ++ digest (written w w.set es)))
+    × (512 * end_from 0 (markers_at index (es ++ digest (written w w.set es))) + 512 ≡ length (zone_bytes w es index))
 closed_zone w [] index below is wrote = let some = wrote.some in absurd (omega (arith, some))
 closed_zone w (e ∷ es) index below is wrote = (
   ap₂ whole_records (sym array) bytes_are ∙ whole_is before e es index can below_then are count used p some.1 ∙ marks_are,
   ap₂ has_foot (sym array) bytes_are ∙ foot_whole before e es index can below_then are count used p some.1,
   ap₂ begun (sym array) bytes_are ∙ begun_is before e es index can below_then are count used p some.1 ∙ marks_are,
+  ap (λ (ms : List Marker). 512 * end_from 0 ms + 512) (sym marks_are) ∙ length_is before e es index can below_then are count used p some.1 ∙ ap length (sym bytes_are),
 )
   where
     before : Writer

@@ -1,5 +1,5 @@
 -- The digest of a set: its records, and the blocks that they take.
-use Rattle.std.proofs.Common.{◌≡◌, inl, inr, ℕ, zero, suc, ◌+◌, ◌-◌, ◌*◌, ◌/◌, ◌%◌, ◌^◌, ◌<◌, ◌≤◌, min, Bool, true, false, cond, List, [], ◌∷◌, ◌++◌, length, drop, refl, sym, ap, subst, ◌∙◌, arith, length-take, length-drop}
+use Rattle.std.proofs.Common.{◌≡◌, inl, inr, ℕ, zero, suc, ◌+◌, ◌-◌, ◌*◌, ◌/◌, ◌%◌, ◌^◌, ◌<◌, ◌≤◌, min, Bool, true, false, cond, [], ◌∷◌, ◌++◌, length, drop, refl, sym, ap, subst, ◌∙◌, arith, length-take, length-drop}
 use Rattle.std.specs.Prelude.{◌==◌, ◌&&◌, nat_le}
 use Rattle.std.specs.Int.{div_ceil}
 use Rattle.std.specs.Str.{bytes_eq}
@@ -12,11 +12,12 @@ use Rattle.marker_format.specs.declared.kind.Kind.TheVariants as kinds
 use Rattle.marker_format.specs.Marker.{IsMarker}
 use Rattle.marker_format.specs.Zone.{belongs, blocks_of}
 use Rattle.array_model.specs.Reading.{fragments_of}
-use Rattle.set_writer.specs.Entry.{Entry, at_index, IsEntry}
+use Rattle.set_writer.specs.Entry.{at_index, IsEntry}
 use Rattle.set_writer.specs.Writer.{Writer, array_by, parts_of, part_of, digest_marker, digest_record, first_digests, blocks_in}
 use Rattle.set_writer.specs.Writer.{CanDigest}
 use Rattle.set_writer.proofs.FitLaws.{ceil_below}
 use Rattle.set_writer.proofs.FirstLaws.{same_bytes}
+use Rattle.set_writer.proofs.WroteLaws.{blocks_in-more}
 
 -- ---- parts
 
@@ -29,15 +30,11 @@ part_before bytes size part some below =
 pub digests-more : (w : Writer) (n : ℕ) → first_digests w (n + 1) ≡ first_digests w n ++ digest_record w n ∷ []
 digests-more w n = map-range_with_len_more (digest_record w) 0 n n (omega arith)
 
-blocks_in-more : (es : List Entry) (e : Entry) → blocks_in (es ++ e ∷ []) ≡ blocks_in es + blocks_of e.marker
-blocks_in-more [] e = omega arith
-blocks_in-more (x ∷ es) e = let rest = blocks_in-more es e in omega (arith, rest)
-
 pub digests_blocks-more : (w : Writer) (n : ℕ) → blocks_in (first_digests w (n + 1)) ≡ blocks_in (first_digests w n) + blocks_of (digest_marker w n)
 digests_blocks-more w n = ap blocks_in (digests-more w n) ∙ blocks_in-more (first_digests w n) (digest_record w n)
 
 module _ (w : Writer) (can : CanDigest w) where
-  room_some : 1 ≤ payload_room w.geometry
+  pub room_some : 1 ≤ payload_room w.geometry
   room_some = let m = mul-le-mul_right w.geometry.shard can.within.k_from in let f = can.within.shard_from in omega (arith, m, f)
 
   room_most : payload_room w.geometry < 2 ^ 32

@@ -1,7 +1,8 @@
 -- The bytes of a record in the zone of an index.
-use Rattle.std.proofs.Common.{◌≡◌, ℕ, ◌+◌, ◌*◌, ◌<◌, true, List, ◌++◌, length, take, drop, sym, ap, ap₂, ◌∙◌, arith, length-append}
+use Rattle.std.proofs.Common.{◌≡◌, ℕ, ◌+◌, ◌*◌, ◌<◌, true, List, [], ◌∷◌, ◌++◌, length, take, drop, refl, sym, ap, ap₂, ◌∙◌, arith, length-append}
 use Rattle.std.specs.Prelude.{◌&&◌, ◌==◌}
 use Rattle.std.specs.Int.{div_ceil}
+use Rattle.std.specs.List.{AllByRecursion}
 use Rattle.std.proofs.lemmas.Bool.{and_parts, eqb-true}
 use Rattle.std.proofs.lemmas.List.{take_at}
 use Rattle.marker_format.specs.declared.marker.Marker.{Marker}
@@ -10,7 +11,8 @@ use Rattle.marker_format.specs.Zone.{Array, belongs, blocks_of}
 use Rattle.marker_format.proofs.BlockLaws.{length-marker_block}
 use Rattle.array_model.specs.Reading.{fragments_of}
 use Rattle.marker_format.specs.Fragment as blocks
-use Rattle.set_writer.specs.Entry.{Entry, fragment, at_index, entry_bytes, IsEntry}
+use Rattle.set_writer.specs.Entry.{Entry, fragment, at_index, entry_bytes, entries_bytes, IsEntry}
+use Rattle.set_writer.specs.Writer.{blocks_in}
 use Rattle.marker_format.proofs.FragmentLaws.{length-blocks_from}
 use Rattle.set_writer.proofs.FragmentLaws.{length-fragment}
 
@@ -36,6 +38,13 @@ length-entry_bytes array e k index is code below =
     let f = fragment k e.payload index in
     let size = ap (λ n. div_ceil n 511) (fragment_size array e k index is code below) in
     omega (arith, long, size, length-append (marker_block (at_index index e.marker)) (blocks.fragment_blocks f), length-blocks_from (blocks.blocks_of (length f)) f)
+
+pub length-all_entries : (array : Array) (k index : ℕ) (es : List Entry) → k ≡ array.geometry.k → index < fragments_of array → AllByRecursion (IsEntry array) es → length (entries_bytes k es index) ≡ 512 * blocks_in es
+length-all_entries array k index [] code below are = refl
+length-all_entries array k index (e ∷ es) code below are =
+    let here = length-entry_bytes array e k index are.0 code below in
+    let rest = length-all_entries array k index es code below are.1 in
+    length-append (entry_bytes k e index) (entries_bytes k es index) ∙ omega (arith, here, rest)
 
 -- its bytes, as they are written
 pub entry_written : (k index : ℕ) (e : Entry) (m : Marker) (f old out : List ℕ) (end : ℕ) → m ≡ at_index index e.marker → f ≡ fragment k e.payload index → out ≡ (marker_block m ++ blocks.fragment_blocks f) ++ drop end old → end ≡ length (entry_bytes k e index) → take end out ≡ entry_bytes k e index

@@ -1,5 +1,5 @@
 -- A table in which a set was formed: its members' zones were empty.
-use Rattle.std.proofs.Common.{◌≡◌, ◌⊎◌, inl, inr, ℕ, ◌+◌, Bool, true, false, cond, set, List, [], ◌∷◌, length, Option, Some, None, IfSome, IsSome, is_some, refl, sym, ap, subst, ◌∙◌}
+use Rattle.std.proofs.Common.{◌≡◌, ◌⊎◌, inl, inr, ℕ, ◌+◌, ◌≤◌, Bool, true, false, cond, set, List, [], ◌∷◌, length, Option, Some, None, IfSome, IsSome, is_some, refl, sym, ap, subst, ◌∙◌, arith}
 use Rattle.std.specs.Prelude.{filter}
 use Rattle.std.specs.List.{AllByRecursion}
 use Rattle.std.proofs.lemmas.Bool.{cases_lt}
@@ -9,7 +9,7 @@ use Rattle.set_table.specs.declared.zone_use.ZoneUse.{ZoneUse}
 use Rattle.set_table.specs.declared.zone_use.ZoneUse.TheVariants.{Empty, Carrier}
 use Rattle.set_table.specs.declared.members.Member.{Member}
 use Rattle.set_table.specs.Zones.{before_empty}
-use Rattle.set_table.specs.Table.{Table, zones_of, use_at, put_use, is_live, has_empty, drives_of, members_from, with_members, marks_of, Forms}
+use Rattle.set_table.specs.Table.{Table, zones_of, use_at, put_use, is_live, has_empty, drives_of, members_from, with_members, marks_of, PutsFormed, Forms}
 use Rattle.set_table.proofs.TableLaws.{put_there}
 use Rattle.set_table.proofs.UseLaws.{each_use}
 use Rattle.set_table.proofs.FormLaws.{lowest_use}
@@ -46,7 +46,7 @@ formed_from : (t : Table) (set' index : ℕ) (ds : List ℕ) (zones : List (List
 formed_from t set' index [] zones all each = each
 formed_from t set' index (d ∷ ds) zones all each = formed_from t set' (index + 1) ds (put_use d (before_empty (zones_of t.zones d)) (Carrier set' index) zones) all.1 (put_from set' index t.zones zones d (before_empty (zones_of t.zones d)) (lowest_use t d all.0) each)
 
-chosen_all : (t : Table) (chosen : ℕ → Bool) (ds : List ℕ) → ((d : ℕ) → chosen d ≡ true → has_empty t d ≡ true) → AllByRecursion (λ d. has_empty t d ≡ true) (filter chosen ds)
+pub chosen_all : (t : Table) (chosen : ℕ → Bool) (ds : List ℕ) → ((d : ℕ) → chosen d ≡ true → has_empty t d ≡ true) → AllByRecursion (λ d. has_empty t d ≡ true) (filter chosen ds)
 chosen_all t chosen [] each = tt
 chosen_all t chosen (d ∷ ds) each = at_one (chosen d) refl (chosen_all t chosen ds each)
   where
@@ -68,7 +68,7 @@ abbrev pub Listed : Table → Type 0
 Listed t = (d z s i : ℕ) → use_at t.zones d z ≡ Carrier s i → IsSome (marks_of s t.sets)
 
 -- a zone that carries the set was empty
-carried_empty : (t t' : Table) (set' : ℕ) (members : List Member) (d z index : ℕ) → Listed t → marks_of set' t.sets ≡ None → Forms t set' members t' → use_at t'.zones d z ≡ Carrier set' index → use_at t.zones d z ≡ Empty
+pub carried_empty : (t t' : Table) (set' : ℕ) (members : List Member) (d z index : ℕ) → Listed t → marks_of set' t.sets ≡ None → Forms t set' members t' → use_at t'.zones d z ≡ Carrier set' index → use_at t.zones d z ≡ Empty
 carried_empty t t' set' members d z index listed absent forms is = elim (from_empty t t' set' members forms d z) [
   | inl empty ↦ empty.0
   | inr same ↦ let some : is_some (marks_of set' t.sets) ≡ true = listed d z set' index (sym same ∙ is) in absurd (none_some (marks_of set' t.sets) absent some)
@@ -92,6 +92,14 @@ formed_empty t t' set' members (Some held) forms empty = λ d z live is. elim (f
   | inr same ↦ empty d z (sym (same_live t t' set' members forms d) ∙ live) (sym same ∙ is)
 ]
 
+-- There is room for one set less at most.
+pub formed_spare : (t t' : Table) (set' : ℕ) (members : List Member) → Forms t set' members t' → t.spare ≤ t'.spare + 1
+formed_spare t t' set' members forms = at members forms.sets
+  where
+    at : (ms : List Member) → PutsFormed set' ms t t' → t.spare ≤ t'.spare + 1
+    at [] puts = let same = puts.1 in omega (arith, same)
+    at (m ∷ ms) puts = let less = puts.1 in omega (arith, less)
+
 -- of the same array
 pub same_array : (t t' : Table) (set' : ℕ) (members : List Member) → Forms t set' members t' → array_of t' ≡ array_of t
 same_array t t' set' members forms = ap (λ (s : Table). array_of s) forms.zones
@@ -103,7 +111,7 @@ listed_still t t' is listed = subst Listed (sym is) listed
 absent_still : (t t' : Table) (set' : ℕ) → t' ≡ record t { spare = t'.spare } → marks_of set' t.sets ≡ None → marks_of set' t'.sets ≡ None
 absent_still t t' set' is absent = ap (λ (s : Table). marks_of set' s.sets) is ∙ absent
 
-empty_still : (t t' : Table) (o : Option Contents) → t' ≡ record t { spare = t'.spare } → IfSome o (EmptyHold t) → IfSome o (EmptyHold t')
+pub empty_still : (t t' : Table) (o : Option Contents) → t' ≡ record t { spare = t'.spare } → IfSome o (EmptyHold t) → IfSome o (EmptyHold t')
 empty_still t t' o is empty = subst (λ (s : Table). IfSome o (EmptyHold s)) (sym is) (at_told o empty)
   where
     at_told : (o : Option Contents) → IfSome o (EmptyHold t) → IfSome o (EmptyHold (record t { spare = t'.spare }))

@@ -28,7 +28,7 @@ given_each : (n f : ℕ) (bytes : List ℕ) (fragments : List (List ℕ)) (first
 given_each n f bytes fragments first zero each = tt
 given_each n f bytes fragments first (suc count) each = (each first (omega arith) (omega arith), given_each n f bytes fragments (first + 1) count (λ i from below. each i (omega arith) (omega (arith, below))))
 
-source_at : (k i : ℕ) → i < k → get_or (sources k) i 0 ≡ i
+pub source_at : (k i : ℕ) → i < k → get_or (sources k) i 0 ≡ i
 source_at k i below = range_at 0 k i below ∙ omega arith
   where
     range_at : (first count i : ℕ) → i < count → get_or (range_with_len first count) i 0 ≡ first + i

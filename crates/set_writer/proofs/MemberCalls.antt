@@ -13,9 +13,9 @@ use Rattle.zone_bay.specs.Stretch.{GoesToward, IsOnTheWay}
 use Rattle.zone_bay.proofs.Extends.{extends_itself, extends_then}
 use Rattle.zone_bay.proofs.Toward.{toward_start, toward_weaker}
 use Rattle.set_table.specs.declared.zone_use.ZoneUse.{ZoneUse}
-use Rattle.set_table.specs.Table.{Table, use_at, is_live}
-use Rattle.set_writer.specs.Members.{more_at, grown_by, Loses, Leads, GrowsBy, SpreadsBy, HasZone, FlushesBy}
-use Rattle.set_writer.proofs.Toward.{Further, images_behind, toward_then, fails_first, fails_second, toward_further, fails_further}
+use Rattle.set_table.specs.Table.{Table, use_at, is_live, Loses}
+use Rattle.set_writer.specs.Members.{more_at, grown_by, Leads, GrowsBy, SpreadsBy, HasZone, FlushesBy}
+use Rattle.zone_bay.proofs.TowardThen.{Further, images_behind, toward_then, fails_first, fails_second, toward_further, fails_further}
 
 -- ---- what zones get
 

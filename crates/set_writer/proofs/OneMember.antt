@@ -15,9 +15,9 @@ use Rattle.zone_bay.proofs.Extends.{at_zone, extends_itself}
 use Rattle.zone_bay.proofs.Toward.{toward_start, toward_call, fails_toward}
 use Rattle.zone_bay.proofs.Calls.{told_made, same_held}
 use Rattle.set_table.specs.Zones.{carries}
-use Rattle.set_table.specs.Table.{Table, use_at, is_live, IsCarrier, TellsCarrier}
+use Rattle.set_table.specs.Table.{Table, use_at, is_live, IsCarrier, TellsCarrier, Loses}
 use Rattle.set_table.proofs.UseLaws.{carries_carrier, is_carrier_of}
-use Rattle.set_writer.specs.Members.{of_one, more_at, grown_by, Loses, Leads, SpreadsBy, HasZone, FlushesBy}
+use Rattle.set_writer.specs.Members.{of_one, more_at, grown_by, Leads, SpreadsBy, HasZone, FlushesBy}
 use Rattle.set_writer.proofs.MemberCalls.{more_live, more_lost, live_or_lost, leads_nowhere}
 
 -- ---- a device that is lost

@@ -1,5 +1,5 @@
 -- A set that was opened.
-use Rattle.std.proofs.Common.{◌≡◌, ℕ, ◌+◌, ◌<◌, true, false, cond, List, [], ◌++◌, Option, Some, None, IfSome, sym, ap, ap₂, subst, ◌∙◌, arith}
+use Rattle.std.proofs.Common.{◌≡◌, ℕ, ◌+◌, ◌<◌, ◌≤◌, true, false, cond, List, [], ◌++◌, length, Option, Some, None, IfSome, sym, ap, ap₂, subst, ◌∙◌, arith}
 use Rattle.std.proofs.lemmas.List.{nil_from_length}
 use Rattle.smore_base.specs.Told.{Told}
 use Rattle.zone_bay.specs.Contents.{Contents}
@@ -9,12 +9,14 @@ use Rattle.set_table.specs.declared.members.Member.{Member}
 use Rattle.set_table.specs.declared.zone_use.ZoneUse.TheVariants.{Carrier}
 use Rattle.set_table.specs.Table.{Table, use_at, is_live, fragments_of, marks_of, Forms}
 use Rattle.set_writer.specs.Entry.{Entry, entries_bytes}
-use Rattle.set_writer.specs.Members.{of_members, grown_by, Grows, MembersFirm, HoldBlocks, array_of}
+use Rattle.set_writer.specs.Members.{of_members, grown_by, OthersStay, Grows, MembersFirm, HoldBlocks, array_of}
 use Rattle.set_writer.specs.Writer.{Writer, array_by, begun, written, closed, opening, AreRecordsFrom, Wrote, EmptyHold, Fits}
+use Rattle.set_writer.specs.Rounds.{InRounds}
 use Rattle.set_writer.specs.Calls.{FitsIn, Began, Opens}
-use Rattle.set_writer.proofs.FormedLaws.{Listed, reserved_hold, reserved_empty}
+use Rattle.set_writer.proofs.FormedLaws.{Listed, formed_spare, reserved_hold, reserved_empty}
 use Rattle.std.proofs.lemmas.Bool.{both_ways}
 use Rattle.set_writer.proofs.BeganLaws.{began_stays}
+use Rattle.set_writer.proofs.ByteLaws.{opening_bytes}
 use Rattle.set_writer.proofs.WroteLaws.{written-same, empty_stays, member_now, zone_open}
 
 module _ (w0 w : Writer) (t r f t' : Table) (id : ℕ) (cuts : List (ℕ × ℕ)) (members : List Member) (old new : BayState)
@@ -49,8 +51,8 @@ module _ (w0 w : Writer) (t r f t' : Table) (id : ℕ) (cuts : List (ℕ × ℕ)
       (subst (λ k. Grows w0.set (entries_bytes k (opening (array_of t) id cuts)) f t' old new) k_is
       (subst (λ (l : List Entry). Grows w0.set (entries_bytes w0.geometry.k l) f t' old new) same_es began.grows))
 
-  pub opened : MembersFirm w0.set t' new → (room : ℕ) × Opens id cuts (record t { spare = room }) t' old new
-  opened firm = (
+  pub opened : MembersFirm w0.set t' new → OthersStay w0.set f old new → InRounds w0.set (length cuts + 3) f t' old new → (room : ℕ) × Opens id cuts (record t { spare = room }) t' old new
+  opened firm others calls = (
     r.spare,
     record {
       members = members;
@@ -58,8 +60,18 @@ module _ (w0 w : Writer) (t r f t' : Table) (id : ℕ) (cuts : List (ℕ × ℕ)
       forms = subst (λ (s : Table). Forms s id members f) reserved forms;
       grows = opened_grows;
       firm = subst (λ s. MembersFirm s t' new) set_is firm;
+      others = subst (λ s. OthersStay s f old new) set_is others;
+      calls = subst (λ s. InRounds s (length cuts + 3) f t' old new) set_is calls;
     },
   )
+
+  -- the empty zones hold nothing still
+  pub opened_empty : IfSome old.contents (EmptyHold t) → IfSome new.contents (EmptyHold t')
+  opened_empty empty = empty_stays f t' id (entries_bytes t.geometry.k (opening (array_of t) id cuts)) old new opened_grows (reserved_empty t r f id members old.contents reserved forms empty)
+
+  -- and there is room for one set less at most
+  pub opened_room : t.spare ≤ r.spare → t.spare ≤ t'.spare + 1
+  opened_room no_less = let kept = ap (λ (s : Table). s.spare) began.grows.table in let one = formed_spare r f id members forms in omega (arith, no_less, kept, one)
 
   pub opened_fits : Listed t → marks_of id t.sets ≡ None → IfSome old.contents (EmptyHold t) → FitsIn w (opening (array_of t) id cuts) t' new
   opened_fits listed absent empty =
@@ -103,6 +115,7 @@ module _ (w0 w : Writer) (t r f t' : Table) (id : ℕ) (cuts : List (ℕ × ℕ)
       told None (Some n) whole h e = absurd whole
       told (Some o) (Some n) whole h e = record {
         wrote = wrote;
+        bytes = opening_bytes (array_of t) id cuts;
         members = λ d z index below live is.
             let is_id : use_at t'.zones d z ≡ Carrier id index = is ∙ ap (λ s. Carrier s index) w_set in
             let before = grows.leads.stays_lost d live in

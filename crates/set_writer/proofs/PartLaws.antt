@@ -12,11 +12,14 @@ use Rattle.set_writer.specs.Members.{Spreads, Grows, HoldBlocks, AllHaveRoom, ar
 use Rattle.set_writer.specs.Writer.{Writer, array_by, parts_of, part_of, digest_marker, digest_record, first_digests, blocks_in}
 use Rattle.set_writer.specs.Calls.{IsOf}
 use Rattle.set_writer.specs.Writer.{CanDigest}
+use Rattle.set_writer.specs.Fit.{live_of}
+use Rattle.set_writer.specs.Rounds.{point_at, InRounds}
 use Rattle.set_writer.proofs.EntryLaws.{length-entry_bytes}
 use Rattle.set_writer.proofs.FitLaws.{blocks_most, room_for, hold_more}
 use Rattle.set_writer.proofs.WroteLaws.{entries-more}
 use Rattle.set_writer.proofs.MemberCalls.{grows_none}
 use Rattle.set_writer.proofs.BeganLaws.{members_none, grows_more, of_now}
+use Rattle.set_writer.proofs.RoundLaws.{no_rounds, one_round, in_rounds_then}
 use Rattle.set_writer.proofs.DigestLaws.{digests-more, digests_blocks-more, fragment_most, digest_is_entry, digests_most}
 
 -- the first so many of a list, as many as they are
@@ -80,6 +83,8 @@ pub record Digested (w : Writer) (n blocks : ℕ) (now : Writer) (t t' : Table) 
   pub sum : blocks ≡ blocks_in (first_digests w n)
   pub held : IfSome new.contents (HoldBlocks t' w.set (w.used + blocks_in (first_digests w n)))
   pub of : IsOf w t' new
+  pub firm : new.firm ≡ old.firm
+  pub calls : InRounds w.set n t t' old new
 
 pub digested_none : (w : Writer) (t : Table) (bay : BayState) → IsOf w t bay → IfSome bay.contents (HoldBlocks t w.set w.used) → Digested w 0 0 w t t bay bay
 digested_none w t bay of_ held = record {
@@ -88,12 +93,14 @@ digested_none w t bay of_ held = record {
   sum = refl;
   held = subst (λ n. IfSome bay.contents (HoldBlocks t w.set n)) (let e : w.used ≡ w.used + 0 = omega arith in e) held;
   of = of_;
+  firm = refl;
+  calls = no_rounds w.set bay.failed (point_at t bay);
 }
 
 pub digested_more : (w now next : Writer) (n blocks more : ℕ) (t t' t'' : Table) (old mid new : BayState) → IsSound old → IsSound mid → Digested w n blocks now t t' old mid
     → next ≡ now → Spreads now.set (entry_bytes now.geometry.k (digest_record now n)) t' t'' mid new → more ≡ blocks_of (digest_marker now n)
-    → IfSome new.contents (HoldBlocks t'' now.set (now.used + blocks_in (first_digests now (n + 1)))) → Digested w (n + 1) (blocks + more) next t t'' old new
-digested_more w now next n blocks more t t' t'' old mid new sound sound' d is spread more_is held =
+    → IfSome new.contents (HoldBlocks t'' now.set (now.used + blocks_in (first_digests now (n + 1)))) → new.moment ≤ mid.moment + live_of t' now.set → Digested w (n + 1) (blocks + more) next t t'' old new
+digested_more w now next n blocks more t t' t'' old mid new sound sound' d is spread more_is held few =
     let spread' : Spreads w.set (entry_bytes w.geometry.k (digest_record w n)) t' t'' mid new = subst (λ (v : Writer). Spreads v.set (entry_bytes v.geometry.k (digest_record v n)) t' t'' mid new) d.writer spread in
     let step = digests_blocks-more w n in
     let size : more ≡ blocks_of (digest_marker w n) = more_is ∙ ap (λ (v : Writer). blocks_of (digest_marker v n)) d.writer in
@@ -105,6 +112,9 @@ digested_more w now next n blocks more t t' t'' old mid new sound sound' d is sp
       sum = omega (arith, step, size, was);
       held = subst (λ (v : Writer). IfSome new.contents (HoldBlocks t'' v.set (v.used + blocks_in (first_digests v (n + 1))))) d.writer held;
       of = of_now w w t' t'' mid new refl spread'.grows.table spread'.grows.leads.toward.goes_on.same_shape d.of;
+      firm = spread'.firm ∙ d.firm;
+      calls = in_rounds_then w.set n 1 (n + 1) t t' t'' old mid new refl spread'.grows.leads.toward.goes_on.keeps_failed d.calls
+          (one_round w.set _ t' t'' mid new spread'.grows.table spread'.grows.leads (subst (λ (v : Writer). new.moment ≤ mid.moment + live_of t' v.set) d.writer few));
     }
 
 -- they are within the zones

@@ -6,7 +6,7 @@ use Rattle.set_table.specs.Table.{Table}
 use Rattle.set_writer.specs.Entry.{Entry, entries_bytes}
 use Rattle.set_writer.specs.Writer.{Writer, begun, behind, written, closed, digest, foot_bytes, CanDigest, Wrote, Fits}
 
-written-roomier : (w : Writer) (r set' : ℕ) (es : List Entry) → written (record w { room = r }) set' es ≡ record (written w set' es) { room = r }
+pub written-roomier : (w : Writer) (r set' : ℕ) (es : List Entry) → written (record w { room = r }) set' es ≡ record (written w set' es) { room = r }
 unfolding written
 written-roomier w r set' es = from (begun w set') es
   where
@@ -36,6 +36,7 @@ module _ (w : Writer) (r : ℕ) (es : List Entry) where
   roomier_fits : (t : Table) (held : Contents) → Fits w es t held → Fits (record w { room = r }) es t held
   roomier_fits t held fits = record {
     wrote = roomier_wrote fits.wrote;
+    bytes = fits.bytes;
     members = λ d z index below live is. fits.members d z index below live is
         ∙ ap (λ (b : Writer). entries_bytes w.geometry.k es index ++ cond w.is_closed (entries_bytes w.geometry.k (digest b) index ++ foot_bytes b index) []) (sym same);
     empty = fits.empty;

@@ -1,6 +1,6 @@
 -- What a writer wrote, and what its zones hold, behind one record more.
 use Rattle.std.proofs.Common.{◌≡◌, ℕ, ◌+◌, ◌*◌, ◌<◌, true, false, cond, List, [], ◌∷◌, ◌++◌, length, Option, Some, None, IfSome, refl, sym, ap, ap₂, subst, ◌∙◌, arith, length-append}
-use Rattle.std.specs.List.{fold}
+use Rattle.std.specs.List.{AllByRecursion, fold}
 use Rattle.std.proofs.lemmas.Bool.{ne_eqb, both_ways}
 use Rattle.std.proofs.lemmas.Bool.Decides.{nat_tests}
 use Rattle.std.proofs.lemmas.List.{append-nil}
@@ -14,12 +14,13 @@ use Rattle.marker_format.specs.declared.marker.Marker.{Marker}
 use Rattle.marker_format.specs.Zone.{Array, has_kind, blocks_of}
 use Rattle.set_table.specs.declared.zone_use.ZoneUse.TheVariants.{Empty, Carrier}
 use Rattle.set_table.specs.Table.{Table, use_at, is_live, fragments_of}
-use Rattle.set_writer.specs.Entry.{Entry, at_index, entry_bytes, entries_bytes}
+use Rattle.array_model.proofs.SameZones.{all-append}
+use Rattle.set_writer.specs.Entry.{Entry, entry_for, IsEntry, HasBytes, entry_bytes, entries_bytes}
 use Rattle.set_writer.specs.Members.{of_members, grown_by, Grows, HoldBlocks, array_of}
 use Rattle.set_writer.specs.Writer.{Writer, array_by, begun, behind, written, closed, zone_bytes, blocks_in, IsRecordAt, AreRecordsFrom, Wrote, EmptyHold, Fits, is_appended, IsAppended}
 use Rattle.set_writer.specs.Calls.{FitsIn}
 use Rattle.set_writer.proofs.MemberCalls.{more_live}
-use Rattle.set_writer.proofs.EntryLaws.{length-entry_bytes}
+use Rattle.set_writer.proofs.EntryLaws.{length-all_entries}
 use Rattle.set_writer.proofs.FitLaws.{member_more}
 
 -- ---- the writer
@@ -84,10 +85,6 @@ not_digest m is = grind (arith, nat_tests)
 not_trailer : (m : Marker) → is_appended m ≡ true → has_kind Trailer m ≡ false
 not_trailer m is = grind (arith, nat_tests)
 
--- a record as it is listed: its index is left aside
-abbrev pub entry_for : Marker → List ℕ → Entry
-entry_for m payload = record { marker = at_index 0 m; payload = payload }
-
 pub appended_is_record : (w : Writer) (m : Marker) (body : CodedPayload) → 0 < w.records → IsAppended w m body → IsRecordAt (array_by w) w.set w.records (entry_for m body.payload)
 appended_is_record w m body some is = record {
   entry = record { markers = is.entry.markers; ours = is.entry.ours; payload = is.entry.payload };
@@ -132,7 +129,7 @@ pub zone_open : (w : Writer) (es : List Entry) (index : ℕ) → w.is_closed ≡
 zone_open w es index open_ = rw open_ (append-nil (entries_bytes w.geometry.k es index))
 
 module _ (w : Writer) (es : List Entry) (e : Entry) (t t' : Table) (open_ : w.is_closed ≡ false) (record_is : IsRecordAt (array_by w) w.set w.records e) where
-  wrote_more : Wrote w es → Wrote (behind w e.marker) (es ++ e ∷ [])
+  pub wrote_more : Wrote w es → Wrote (behind w e.marker) (es ++ e ∷ [])
   wrote_more wrote =
       let w_is = open_is w es open_ wrote in
       let count : w.records ≡ length es = ap (λ (v : Writer). v.records) w_is ∙ written-records w w.set es in
@@ -147,8 +144,8 @@ module _ (w : Writer) (es : List Entry) (e : Entry) (t t' : Table) (open_ : w.is
         can = λ is. absurd (both_ways w.is_closed open_ is);
       }
 
-  pub fits_more : (old new : BayState) → Grows w.set (entry_bytes w.geometry.k e) t t' old new → FitsIn w es t old → FitsIn (behind w e.marker) (es ++ e ∷ []) t' new
-  fits_more old new grows fits = told old.contents new.contents grows.whole stays fits
+  pub fits_more : (old new : BayState) → HasBytes e → Grows w.set (entry_bytes w.geometry.k e) t t' old new → FitsIn w es t old → FitsIn (behind w e.marker) (es ++ e ∷ []) t' new
+  fits_more old new bytes grows fits = told old.contents new.contents grows.whole stays fits
     where
       zones : t'.zones ≡ t.zones
       zones = ap (λ (s : Table). s.zones) grows.table
@@ -168,6 +165,7 @@ module _ (w : Writer) (es : List Entry) (e : Entry) (t t' : Table) (open_ : w.is
       told None (Some n) whole h f = absurd whole
       told (Some o) (Some n) whole h f = record {
         wrote = wrote_more f.wrote;
+        bytes = all-append HasBytes es (e ∷ []) f.bytes (bytes, tt);
         members = λ d z index below live is.
             let before = grows.leads.stays_lost d live in
             let below' : index < fragments_of t = omega (arith, below, count) in
@@ -181,7 +179,7 @@ module _ (w : Writer) (es : List Entry) (e : Entry) (t t' : Table) (open_ : w.is
 
 -- ---- how much the zones hold
 
-blocks_in-more : (es : List Entry) (e : Entry) → blocks_in (es ++ e ∷ []) ≡ blocks_in es + blocks_of e.marker
+pub blocks_in-more : (es : List Entry) (e : Entry) → blocks_in (es ++ e ∷ []) ≡ blocks_in es + blocks_of e.marker
 blocks_in-more [] e = omega arith
 blocks_in-more (x ∷ es) e = let rest = blocks_in-more es e in omega (arith, rest)
 
@@ -193,12 +191,12 @@ written-used w set es = from (begun w set) es ∙ omega arith
     from v [] = omega arith
     from v (e ∷ es) = from (behind v e.marker) es ∙ omega arith
 
+pub entries_are : (array : Array) (set position : ℕ) (es : List Entry) → AreRecordsFrom array set position es → AllByRecursion (IsEntry array) es
+entries_are array set position [] are = tt
+entries_are array set position (e ∷ es) are = (are.0.entry, entries_are array set (position + 1) es are.1)
+
 pub length-entries : (array : Array) (set position k index : ℕ) (es : List Entry) → k ≡ array.geometry.k → index < array.geometry.k + array.geometry.p → AreRecordsFrom array set position es → length (entries_bytes k es index) ≡ 512 * blocks_in es
-length-entries array set position k index [] code below are = refl
-length-entries array set position k index (e ∷ es) code below are =
-    let here = length-entry_bytes array e k index are.0.entry code below in
-    let rest = length-entries array set (position + 1) k index es code below are.1 in
-    length-append (entry_bytes k e index) (entries_bytes k es index) ∙ omega (arith, here, rest)
+length-entries array set position k index es code below are = length-all_entries array k index es code below (entries_are array set position es are)
 
 -- an open set's members hold its blocks
 pub fits_hold : (w : Writer) (t : Table) (o : Option Contents) → w.is_closed ≡ false → array_by w ≡ array_of t → IfSome o (λ held. (es : List Entry) × Fits w es t held) → IfSome o (HoldBlocks t w.set w.used)
@@ -220,9 +218,9 @@ fits_some w es open_ wrote =
     omega (arith, count, some)
 
 -- the record that was appended, in the words of the call
-pub fits_appended : (w w' : Writer) (es : List Entry) (m : Marker) (body : CodedPayload) (t t' : Table) (old new : BayState) → w.is_closed ≡ false → w' ≡ behind w m → IsAppended w m body → Grows w.set (entry_bytes w.geometry.k (record { marker = m; payload = body.payload })) t t' old new
+pub fits_appended : (w w' : Writer) (es : List Entry) (m : Marker) (body : CodedPayload) (t t' : Table) (old new : BayState) → w.is_closed ≡ false → w' ≡ behind w m → IsAppended w m body → HasBytes (record { marker = m; payload = body.payload }) → Grows w.set (entry_bytes w.geometry.k (record { marker = m; payload = body.payload })) t t' old new
     → FitsIn w es t old → FitsIn w' (es ++ entry_for m body.payload ∷ []) t' new
-fits_appended w w' es m body t t' old new open_ is appended grows fits = at_told old.contents new.contents grows.whole fits (λ some. fits_more w es (entry_for m body.payload) t t' open_ (appended_is_record w m body some appended) old new (subst (λ (f : ℕ → List ℕ). Grows w.set f t t' old new) (entry_same w.geometry.k m body.payload) grows) fits)
+fits_appended w w' es m body t t' old new open_ is appended bytes grows fits = at_told old.contents new.contents grows.whole fits (λ some. fits_more w es (entry_for m body.payload) t t' open_ (appended_is_record w m body some appended) old new (record { payload = bytes.payload; name = bytes.name }) (subst (λ (f : ℕ → List ℕ). Grows w.set f t t' old new) (entry_same w.geometry.k m body.payload) grows) fits)
   where
     e : Entry
     e = entry_for m body.payload

@@ -1,11 +1,11 @@
 -- What the calls of a writer do to the table and the bay, call by call on its members.
-use Rattle.std.specs.Prelude.{◌≡◌, ◌⊎◌, ℕ, ◌≤◌, Bool, true, false, ◌&&◌, not, ◌<◌, List, [], ◌++◌, length, All, IfSome, option_map, ⊤, if◌then◌else◌}
-use Rattle.zone_bay.specs.Contents.{Contents, Lengths}
-use Rattle.zone_bay.specs.Images.{ImageOf, Instant}
+use Rattle.std.specs.Prelude.{◌≡◌, ◌⊎◌, ℕ, ◌+◌, ◌≤◌, Bool, true, false, ◌&&◌, not, ◌<◌, List, [], ◌++◌, length, All, IfSome, option_map, Result, Ok, Err, ⊤, if◌then◌else◌}
+use Rattle.zone_bay.specs.Contents.{Contents, Lengths, IsOfBay}
+use Rattle.zone_bay.specs.Images.{ImageOf, Instant, moment_of}
 use Rattle.zone_bay.specs.Bay.{BayState}
 use Rattle.zone_bay.specs.Stretch.{GoesOn}
 use Rattle.set_table.specs.declared.members.Member.{Member}
-use Rattle.set_table.specs.Table.{Table, fragments_of, with_empty_of, Forms}
+use Rattle.set_table.specs.Table.{Table, is_live, fragments_of, with_empty_of, Forms, Loses}
 use Rattle.set_writer.specs.declared.first.First.{First}
 use Rattle.set_writer.specs.declared.first.First.TheVariants as first
 use Rattle.set_writer.specs.declared.first.First.TheVariants.{Keeps, IsReady}
@@ -13,10 +13,11 @@ use Rattle.set_writer.specs.declared.refusal.WriteRefusal.{WriteRefusal}
 use Rattle.set_writer.specs.declared.refusal.WriteRefusal.TheVariants.{Memory, TooFew, NoFit, Short}
 use Rattle.set_writer.specs.declared.open.TheConstants.{MOST_CUTS}
 use Rattle.set_writer.specs.Entry.{Entry, entries_bytes}
-use Rattle.set_writer.specs.Members.{IsOfBay, array_of, of_members, grown_by, is_member, HasZone, Leads, AllReach, Grows, MembersFirm, HoldBlocks}
-use Rattle.set_writer.specs.Writer.{Writer, array_by, written, opening, digest, foot_bytes, closed, AreRecordsFrom, Fits}
+use Rattle.set_writer.specs.Members.{array_of, of_members, grown_by, is_member, HasZone, Leads, AllReach, OthersStay, Grows, MembersFirm, HoldBlocks}
+use Rattle.set_writer.specs.Writer.{Writer, array_by, written, opening, parts_of, digest, foot_bytes, closed, AreRecordsFrom, HoldsSet, Fits}
 use Rattle.set_writer.specs.Fit.{has_enough}
 use Rattle.set_writer.specs.Refusal.{IsShort, IsTooFew}
+use Rattle.set_writer.specs.Rounds.{Point, point_at, Rounds, InRounds}
 
 -- ---- what each call asks
 
@@ -62,6 +63,10 @@ pub record NoCall (old new : BayState) : Type 0 where
 
 -- ---- opening
 
+-- an opening has a round for the head, for each cut and for the ready record, and one of flushes
+abbrev pub opening_rounds : List (ℕ × ℕ) → ℕ
+opening_rounds cuts = length cuts + 3
+
 -- A set was formed, and its first records were written on its members and made firm.
 pub record Opens (set : ℕ) (cuts : List (ℕ × ℕ)) (t t' : Table) (old new : BayState) : Type 0 where
   pub members : List Member
@@ -69,6 +74,8 @@ pub record Opens (set : ℕ) (cuts : List (ℕ × ℕ)) (t t' : Table) (old new 
   pub forms : Forms t set members formed
   pub grows : Grows set (entries_bytes t.geometry.k (opening (array_of t) set cuts)) formed t' old new
   pub firm : MembersFirm set t' new
+  pub others : OthersStay set formed old new
+  pub calls : InRounds set (opening_rounds cuts) formed t' old new
 
 -- the array with the first records of a set without cuts
 abbrev pub with_opening : ℕ → Table → Contents → Contents
@@ -92,22 +99,50 @@ abbrev pub HasAll : ℕ → Table → Lengths → Contents → Type 0
 HasAll set t firm held = (d z : ℕ) → HasZone (is_member (fragments_of t) set) t d → length (held d z) ≤ firm d z
 
 -- A crash left no more than was held; once the records were firm, less than the digest; or once the digest was firm, less than the
--- feet. So where any member has a byte of a foot, each member that is live behind the call has the whole digest, and where any has a
--- byte of the digest, each has all the records.
-abbrev pub LeftClosing : Writer → Table → BayState → Lengths → Lengths → Instant → Contents → Type 0
-LeftClosing w t old flushed firm i image = ImageOf (option_map (λ held. held) old.contents) old.firm image ⊎ ImageOf (option_map (with_digest w t) old.contents) flushed image ⊎ ImageOf (option_map (with_closing w t) old.contents) firm image
+-- feet. So where any member has a byte of a foot, each member that was live as the first foot was put has the whole digest, and where
+-- any has a byte of the digest, each that was live as the first digest record was put has all the records. Neither is left of an
+-- instant before.
+abbrev pub LeftClosing : Writer → Table → BayState → Lengths → Lengths → ℕ → ℕ → Instant → Contents → Type 0
+LeftClosing w t old flushed firm from_digest from_feet i image =
+    ImageOf (option_map (λ held. held) old.contents) old.firm image
+    ⊎ ((from_digest ≤ moment_of i) × ImageOf (option_map (with_digest w t) old.contents) flushed image)
+    ⊎ ((from_feet ≤ moment_of i) × ImageOf (option_map (with_closing w t) old.contents) firm image)
+
+-- a call on the device failed since old, by this moment
+abbrev pub FailedBy : BayState → BayState → ℕ → ℕ → Type 0
+FailedBy old new moment d = (m : ℕ) × (old.moment ≤ m) × (m ≤ moment) × new.failed d m
+
+-- a closing has a round for each digest record, one for the feet, and three of flushes
+abbrev pub closing_rounds : Writer → ℕ
+closing_rounds w = parts_of w + 4
 
 -- The records were made firm, the digest was put on the members and made firm, then the feet.
 pub record Closes (w : Writer) (t t' : Table) (old new : BayState) : Type 0 where
   pub grows : Grows w.set (closing_bytes w) t t' old new
   pub firm : MembersFirm w.set t' new
-  -- what was firm as the first digest record was put
+  -- the table as the first digest record was put, the calls until then, by which each device failed that was lost, and what was firm
+  pub records_table : Table
+  pub records_lost : records_table ≡ record t { lost = records_table.lost }
+  pub records_live : (d : ℕ) → is_live records_table d ≡ true → is_live t d ≡ true
+  pub records_moment : ℕ
+  pub records_failed : IfSome old.contents (λ held. (d : ℕ) → Loses t records_table d → FailedBy old new records_moment d)
   pub firm_first : Lengths
-  pub records_firm : IfSome old.contents (λ held. HasAll w.set t' firm_first held)
-  -- what was firm as the first foot was put
+  pub records_firm : IfSome old.contents (λ held. HasAll w.set records_table firm_first held)
+  -- the same as the first foot was put; what was firm is firm still
+  pub digest_table : Table
+  pub digest_lost : digest_table ≡ record t { lost = digest_table.lost }
+  pub digest_live : (d : ℕ) → is_live digest_table d ≡ true → is_live records_table d ≡ true
+  pub digest_moment : ℕ
+  pub digest_failed : IfSome old.contents (λ held. (d : ℕ) → Loses t digest_table d → FailedBy old new digest_moment d)
   pub firm_then : Lengths
-  pub digest_firm : IfSome old.contents (λ held. HasAll w.set t' firm_then (with_digest w t held))
-  pub order : GoesOn old new (LeftClosing w t old firm_first firm_then) (λ d m. ⊤)
+  pub digest_firm : IfSome old.contents (λ held. HasAll w.set digest_table firm_then (with_digest w t held))
+  pub digest_still : IfSome old.contents (λ held. HasAll w.set digest_table new.firm (with_digest w t held))
+  pub digest_before : digest_moment ≤ new.moment
+  -- no device came back behind that
+  pub stays : (d : ℕ) → is_live t' d ≡ true → is_live digest_table d ≡ true
+  pub order : GoesOn old new (LeftClosing w t old firm_first firm_then records_moment digest_moment) (λ d m. ⊤)
+  pub others : OthersStay w.set t old new
+  pub calls : InRounds w.set (closing_rounds w) t t' old new
 
 -- ---- the next set
 
@@ -123,6 +158,10 @@ with_end w t held = if closes_first w t then with_closing w t held else held
 abbrev pub ended : Writer → Table → Writer
 ended w t = if closes_first w t then closed w else w
 
+-- the rounds of that
+abbrev pub ending_rounds : Writer → Table → ℕ
+ending_rounds w t = if closes_first w t then closing_rounds w else 0
+
 -- the set is closed, or nothing is done
 abbrev pub EndsBy : Bool → Writer → Table → Table → BayState → BayState → Type 0
 EndsBy true w t t' old new = Closes w t t' old new
@@ -132,15 +171,18 @@ abbrev pub Ends : Writer → Table → Table → BayState → BayState → Type 
 Ends w t = EndsBy (closes_first w t) w t
 
 -- what a closing may leave, or no call
-abbrev pub LeftEnding : Bool → Writer → Table → BayState → Lengths → Lengths → Instant → Contents → Type 0
-LeftEnding true w t old flushed firm i image = LeftClosing w t old flushed firm i image
-LeftEnding false w t old flushed firm i image = ImageOf old.contents old.firm image
+abbrev pub LeftEnding : Bool → Writer → Table → BayState → Lengths → Lengths → ℕ → ℕ → Instant → Contents → Type 0
+LeftEnding true w t old flushed firm from_digest from_feet i image = LeftClosing w t old flushed firm from_digest from_feet i image
+LeftEnding false w t old flushed firm from_digest from_feet i image = ImageOf old.contents old.firm image
 
 -- The old set was closed where it had to be, and kept enough members; then a set was formed and opened on the array that was left.
 pub record Follows (set least : ℕ) (w w' : Writer) (t t' : Table) (old new : BayState) : Type 0 where
   -- the table behind the closing, and with the set formed
   pub closed_table : Table
   pub lost : closed_table ≡ record t { lost = closed_table.lost }
+  -- no device came back, in the closing and behind it
+  pub closed_stays : (d : ℕ) → is_live closed_table d ≡ true → is_live t d ≡ true
+  pub stays : (d : ℕ) → is_live t' d ≡ true → is_live closed_table d ≡ true
   pub kept : closes_first w t ≡ true → has_enough closed_table w.set ≡ true
   -- enough drives had an empty zone
   pub enough : least ≤ with_empty_of closed_table
@@ -155,17 +197,43 @@ pub record Follows (set least : ℕ) (w w' : Writer) (t t' : Table) (old new : B
   -- what was firm as the first head was put
   pub firm_then : Lengths
   pub all_firm : closes_first w t ≡ true → IfSome old.contents (λ held. HasAll w.set closed_table firm_then (with_closing w t held))
+  -- in the closing: the table as the first digest record was put, the calls until then, by which each device failed that was lost, and
+  -- what was firm
+  pub records_table : Table
+  pub records_lost : records_table ≡ record t { lost = records_table.lost }
+  pub records_live : (d : ℕ) → is_live records_table d ≡ true → is_live t d ≡ true
+  pub records_moment : ℕ
+  pub records_failed : closes_first w t ≡ true → IfSome old.contents (λ held. (d : ℕ) → Loses t records_table d → FailedBy old new records_moment d)
   pub firm_records : Lengths
-  pub records_firm : closes_first w t ≡ true → IfSome old.contents (λ held. HasAll w.set closed_table firm_records held)
+  pub records_firm : closes_first w t ≡ true → IfSome old.contents (λ held. HasAll w.set records_table firm_records held)
+  -- the same as the first foot was put; what was firm is so as the first head is put too
+  pub digest_table : Table
+  pub digest_lost : digest_table ≡ record t { lost = digest_table.lost }
+  pub digest_live : (d : ℕ) → is_live digest_table d ≡ true → is_live records_table d ≡ true
+  pub digest_stays : (d : ℕ) → is_live closed_table d ≡ true → is_live digest_table d ≡ true
+  pub digest_moment : ℕ
+  pub digest_failed : closes_first w t ≡ true → IfSome old.contents (λ held. (d : ℕ) → Loses t digest_table d → FailedBy old new digest_moment d)
   pub firm_digest : Lengths
-  pub digest_firm : closes_first w t ≡ true → IfSome old.contents (λ held. HasAll w.set closed_table firm_digest (with_digest w t held))
-  pub order : GoesOn old new (λ i image. LeftEnding (closes_first w t) w t old firm_records firm_digest i image ⊎ ImageOf (option_map (λ held. with_opening set formed (with_end w t held)) old.contents) firm_then image) (λ d m. ⊤)
+  pub digest_firm : closes_first w t ≡ true → IfSome old.contents (λ held. HasAll w.set digest_table firm_digest (with_digest w t held))
+  pub digest_still : closes_first w t ≡ true → IfSome old.contents (λ held. HasAll w.set digest_table firm_then (with_digest w t held))
+  pub order : GoesOn old new (λ i image. LeftEnding (closes_first w t) w t old firm_records firm_digest records_moment digest_moment i image ⊎ ((digest_moment ≤ moment_of i) × ImageOf (option_map (λ held. with_opening set formed (with_end w t held)) old.contents) firm_then image)) (λ d m. ⊤)
+  -- no device without a live member of either set was flushed
+  pub others : (d z : ℕ) → (closes_first w t ≡ true → HasZone (is_member (fragments_of t) w.set) t d → ⊥) → (HasZone (is_member (fragments_of formed) set) formed d → ⊥) → new.firm d z ≡ old.firm d z
+  -- the point between the closing and the opening
+  pub ended_at : Point
+  pub ended_table : ended_at.table ≡ closed_table
+  pub ending_calls : Rounds w.set (ending_rounds w t) new.failed (point_at t old) ended_at
+  pub opening_calls : Rounds set (opening_rounds []) new.failed (record ended_at { table = formed }) (point_at t' new)
   pub is : w' ≡ written (ended w t) set (opening (array_by w) set [])
   pub fits : FitsIn w' (opening (array_by w) set []) t' new
 
 -- the zones hold what the writer wrote still
 abbrev pub StillFits : Writer → Writer → Table → Table → BayState → BayState → Type 0
 StillFits w w' t t' old new = (es : List Entry) → FitsIn w es t old → FitsIn w' es t' new
+
+-- The zones of the old set hold what its writer wrote, and its closing where it was closed.
+abbrev pub OldHolds : Writer → Table → Table → BayState → BayState → Type 0
+OldHolds w t t' old new = (es : List Entry) → FitsIn w es t old → IfSome new.contents (HoldsSet (ended w t) es t')
 
 -- why it wasn't
 abbrev pub NextRefusal : ℕ → ℕ → Writer → Writer → Table → Table → BayState → BayState → WriteRefusal → Type 0
@@ -180,6 +248,12 @@ NextRefusal set least w w' t t' old new _ = ⊥
 abbrev pub WereEnough : ℕ → Table → WriteRefusal → Type 0
 WereEnough least t (Short told missing) = least ≤ with_empty_of t
 WereEnough least t _ = Unit {0}
+
+-- Room for sets is lost only to the one that was formed.
+abbrev pub KeepsRoom : {T : Type 0} → Table → Table → Result T WriteRefusal → Type 0
+KeepsRoom t t' (Ok x) = t.spare ≤ t'.spare + 1
+KeepsRoom t t' (Err (Short told missing)) = t.spare ≤ t'.spare + 1
+KeepsRoom t t' (Err e) = t.spare ≤ t'.spare
 
 -- A new set isn't opened: there is no memory, too few drives have an empty zone, or too few of its members are left. Only for the last
 -- a call was made on the bay.

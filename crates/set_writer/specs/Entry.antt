@@ -1,9 +1,10 @@
 -- A record of a set, and its bytes in the zone of an index.
 use Rattle.std.specs.Prelude.{◌≡◌, ℕ, ◌<◌, true, List, length, map}
 use Rattle.std.specs.List.{flat_map, range_with_len}
+use Rattle.gf_field.specs.Field.{AreBytes}
 use Rattle.rs_code.specs.Fragments.{piece, fragment_len, padded}
 use Rattle.marker_format.specs.declared.marker.Marker.{Marker}
-use Rattle.marker_format.specs.Marker.{IsMarker}
+use Rattle.marker_format.specs.Marker.{IsMarker, bytes_of_name}
 use Rattle.marker_format.specs.Fragment.{record_bytes}
 use Rattle.marker_format.specs.Zone.{Array, belongs}
 use Rattle.array_model.specs.Payload.{Fragment, fragment_from}
@@ -26,6 +27,10 @@ fragment k payload index = fragment_from (sources_of k payload) (fragment_len k 
 abbrev pub at_index : ℕ → Marker → Marker
 at_index index m = record m { index = index }
 
+-- a record as it is listed: its index is left aside
+abbrev pub entry_for : Marker → List ℕ → Entry
+entry_for m payload = record { marker = at_index 0 m; payload = payload }
+
 -- a record's blocks in the zone of an index: its marker's, and those of its fragment
 unfoldable pub entry_bytes : ℕ → Entry → ℕ → List ℕ
 entry_bytes k e index = record_bytes (at_index index e.marker) (fragment k e.payload index)
@@ -40,3 +45,8 @@ pub record IsEntry (array : Array) (e : Entry) : Type 0 where
   pub markers : (index : ℕ) → index < fragments_of array → IsMarker (at_index index e.marker)
   pub ours : belongs array e.marker ≡ true
   pub payload : length e.payload ≡ e.marker.payload
+
+-- its payload and its name are bytes
+pub record HasBytes (e : Entry) : Type 0 where
+  pub payload : AreBytes e.payload
+  pub name : AreBytes (bytes_of_name e.marker.name)

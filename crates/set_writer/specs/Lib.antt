@@ -1,9 +1,16 @@
 pub mod Body
 pub mod Calls
+pub mod ClosedLaws
 pub mod Entry
 pub mod Fit
+pub mod ImageLaws
 pub mod Inside
+pub mod KeptLaws
 pub mod Laws
 pub mod Members
+pub mod PayloadLaws
 pub mod Refusal
+pub mod Rounds
+pub mod SetReadLaws
+pub mod TableLaws
 pub mod Writer

@@ -5,19 +5,13 @@ use Rattle.smore_base.specs.declared.geometry.Geometry.{Geometry}
 use Rattle.smore_base.specs.declared.limits.TheConstants.{BLOCK_BYTES}
 use Rattle.marker_format.specs.Zone.{Array}
 use Rattle.zone_bay.specs.Outside.{Rose}
-use Rattle.zone_bay.specs.Contents.{Shape, Contents}
+use Rattle.zone_bay.specs.Contents.{Contents}
 use Rattle.zone_bay.specs.Bay.{BayState}
 use Rattle.zone_bay.specs.Stretch.{GoesToward, FailsToward}
 use Rattle.set_table.specs.declared.zone_use.ZoneUse.{ZoneUse}
 use Rattle.set_table.specs.declared.zone_use.ZoneUse.TheVariants.{Empty, Taken, Carrier}
 use Rattle.set_table.specs.Zones.{carries}
-use Rattle.set_table.specs.Table.{Table, use_at, is_live, fragments_of}
-
--- the geometry is the bay's: the last device is the flash
-pub record IsOfBay (g : Geometry) (shape : Shape) : Type 0 where
-  pub devices : g.drives + 1 ≡ shape.devices
-  pub zones : g.zones ≡ shape.zones
-  pub blocks : g.blocks ≡ shape.blocks
+use Rattle.set_table.specs.Table.{Table, use_at, is_live, fragments_of, Loses}
 
 -- ---- what is put on them
 
@@ -56,10 +50,6 @@ abbrev pub IsOfCode : Geometry → ℕ → ℕ → Type 0
 IsOfCode g k p = (k ≡ g.k) × (p ≡ g.p)
 
 -- ---- what calls on them do
-
--- a device that was live is lost
-abbrev pub Loses : Table → Table → ℕ → Type 0
-Loses t t' d = (is_live t d ≡ true) × (is_live t' d ≡ false)
 
 -- Calls led toward a goal, whichever of them failed: a device was lost where a call on it failed, and no other device failed.
 pub record Leads (goal : Contents → Contents) (t t' : Table) (old new : BayState) : Type 0 where
@@ -116,6 +106,10 @@ pub record FlushesBy (test : ZoneUse → Bool) (t t' : Table) (old new : BayStat
 -- the live members of the set were flushed
 abbrev pub Flushes : ℕ → Table → Table → BayState → BayState → Type 0
 Flushes set t = FlushesBy (is_member (fragments_of t) set) t
+
+-- no device without a live member of the set was flushed
+abbrev pub OthersStay : ℕ → Table → BayState → BayState → Type 0
+OthersStay set t old new = (d z : ℕ) → (HasZone (is_member (fragments_of t) set) t d → ⊥) → new.firm d z ≡ old.firm d z
 
 -- The live members of the set got the bytes of their indexes, by calls of which some were flushes.
 abbrev pub Grows : ℕ → (ℕ → List ℕ) → Table → Table → BayState → BayState → Type 0

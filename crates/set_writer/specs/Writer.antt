@@ -1,7 +1,7 @@
 -- A writer of a set: what it knows of the set that it appends to, and what the set's zones hold.
 use Rattle.std.specs.Prelude.{◌≡◌, ℕ, ◌+◌, ◌-◌, ◌*◌, ◌/◌, ◌<◌, ◌≤◌, max, Bool, true, false, ◌||◌, ◌==◌, List, [], ◌∷◌, ◌++◌, length, map, take, drop, None, if◌then◌else◌}
 use Rattle.std.specs.Int.{div_ceil}
-use Rattle.std.specs.List.{fold, range_with_len}
+use Rattle.std.specs.List.{AllByRecursion, fold, range_with_len}
 use Rattle.smore_base.specs.declared.geometry.Geometry.{Geometry}
 use Rattle.smore_base.specs.declared.limits.TheConstants.{LINE_BYTES, MAX_RECORDS}
 use Rattle.smore_base.specs.Geometry.{IsWithinLimits}
@@ -22,7 +22,7 @@ use Rattle.set_table.specs.declared.zone_use.ZoneUse.TheVariants.{Empty, Carrier
 use Rattle.set_table.specs.Table.{Table, use_at, is_live, fragments_of}
 use Rattle.set_writer.specs.declared.first.First.{First}
 use Rattle.set_writer.specs.declared.first.First.TheVariants.{Opens, Keeps, IsReady}
-use Rattle.set_writer.specs.Entry.{Entry, IsEntry, entries_bytes}
+use Rattle.set_writer.specs.Entry.{Entry, IsEntry, HasBytes, entries_bytes}
 
 -- A writer, as its callers see it.
 pub record Writer : Type 0 where
@@ -202,11 +202,16 @@ pub record Wrote (w : Writer) (es : List Entry) : Type 0 where
 abbrev pub EmptyHold : Table → Contents → Type 0
 EmptyHold t held = (d z : ℕ) → is_live t d ≡ true → use_at t.zones d z ≡ Empty → held d z ≡ []
 
+-- The zones of live drives that carry the writer's set hold just what it wrote there.
+abbrev pub HoldsSet : Writer → List Entry → Table → Contents → Type 0
+HoldsSet w es t held = (d z index : ℕ) → index < fragments_of t → is_live t d ≡ true → use_at t.zones d z ≡ Carrier w.set index → held d z ≡ zone_bytes w es index
+
 -- The zones of live drives hold what the table and the writer say: those that carry the set just what the writer wrote there, and
 -- those that are empty nothing.
 pub record Fits (w : Writer) (es : List Entry) (t : Table) (held : Contents) : Type 0 where
   pub wrote : Wrote w es
-  pub members : (d z index : ℕ) → index < fragments_of t → is_live t d ≡ true → use_at t.zones d z ≡ Carrier w.set index → held d z ≡ zone_bytes w es index
+  pub bytes : AllByRecursion HasBytes es
+  pub members : HoldsSet w es t held
   pub empty : EmptyHold t held
 
 -- kinds of records that are appended: parts, notes, cuts and parts of a snapshot

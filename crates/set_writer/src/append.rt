@@ -1,6 +1,6 @@
 ghost use Rattle.std.specs.Prelude.{◌≡◌, ◌+◌, ◌*◌, ◌≤◌, ◌<◌, false, true, length, IfSome, MatchResult, List, [], ◌∷◌, ◌++◌, ℕ};
 ghost use Rattle.smore_base.specs.Room.{record_blocks};
-ghost use Rattle.set_writer.specs.Fit.{has_enough};
+ghost use Rattle.set_writer.specs.Fit.{live_of, has_enough};
 ghost use Rattle.set_writer.specs.Refusal.{ShortRefusal};
 
 use crate::body::Body;
@@ -32,7 +32,7 @@ pub(crate) fn check_live(table: &SetTable, set: u64) -> Result<(), WriteRefusal>
 impl SetWriter {
     ghost use Rattle.marker_format.specs.Zone.{blocks_of};
     ghost use Rattle.set_digest.specs.Line.{spelling_of};
-    ghost use Rattle.set_writer.specs.Entry.{Entry, at_index, IsEntry, entry_bytes};
+    ghost use Rattle.set_writer.specs.Entry.{Entry, at_index, IsEntry, HasBytes, entry_bytes};
     ghost use Rattle.set_writer.specs.Body.{entry_of, IsBody};
     ghost use Rattle.set_writer.specs.Members.{Spreads, Flushes, HoldBlocks};
     ghost use Rattle.set_writer.specs.Writer.{Writer, array_by, behind, spare_of, listed_of, IsAppended, Fits};
@@ -66,12 +66,12 @@ impl SetWriter {
         requires set { item.marker.now.set ≡ self.old.set }
         requires body { IsBody self.old.geometry.k self.old.geometry.p item.body }
         requires held { IfSome (B.state bay.old).contents (HoldBlocks table.old self.old.set self.old.used) }
+        ensures bytes { HasBytes (entry_of item.entry) }
         ensures writer { self.new ≡ behind self.old item.entry.marker.now }
         ensures spread { Spreads self.old.set (entry_bytes self.old.geometry.k (entry_of item.entry))
             table.old table.new (B.state bay.old) (B.state bay.new) }
         ensures held { IfSome (B.state bay.new).contents (HoldBlocks table.new self.new.set self.new.used) }
-        ensures calls { (B.state bay.new).moment
-            ≤ (B.state bay.old).moment + (self.old.geometry.k + self.old.geometry.p) }
+        ensures calls { (B.state bay.new).moment ≤ (B.state bay.old).moment + live_of table.old self.old.set }
     {
         put_all(bay, table, &self.code, item, self.out.as_mut_slice());
         let line = spelled_line(item.marker, self.used);
@@ -105,8 +105,7 @@ impl SetWriter {
         ensures spread { fits_in self.old (record_blocks m.now.fragment) ≡ true
             → Spreads self.old.set (entry_bytes self.old.geometry.k (record { marker = m.now; payload = body.now.payload }))
             table.old table.new (B.state bay.old) (B.state bay.new) }
-        ensures calls { (B.state bay.new).moment
-            ≤ (B.state bay.old).moment + (self.old.geometry.k + self.old.geometry.p) }
+        ensures calls { (B.state bay.new).moment ≤ (B.state bay.old).moment + live_of table.old self.old.set }
         ensures spare { spare_of self.old ≤ spare_of self.new + 1 }
         ensures of { IsOf self.new table.new (B.state bay.new) }
         ensures held { fits_in self.old (record_blocks m.now.fragment) ≡ true → (es : List Entry)
@@ -144,8 +143,7 @@ impl SetWriter {
         ensures writer { self.new ≡ self.old }
         ensures flushed { Flushes self.old.set table.old table.new (B.state bay.old) (B.state bay.new) }
         ensures of { IsOf self.new table.new (B.state bay.new) }
-        ensures calls { (B.state bay.new).moment
-            ≤ (B.state bay.old).moment + (self.old.geometry.k + self.old.geometry.p) }
+        ensures calls { (B.state bay.new).moment ≤ (B.state bay.old).moment + live_of table.old self.old.set }
         ensures held { (es : List Entry) → FitsIn self.old es table.old (B.state bay.old)
             → FitsIn self.new es table.new (B.state bay.new) }
     {

@@ -22,6 +22,7 @@ pub(crate) enum Body<'a> {
 }
 
 impl<'a> Body<'a> {
+    ghost use Rattle.gf_field.specs.Field.{AreBytes};
     ghost use Rattle.set_writer.specs.Entry.{fragment};
     ghost use Rattle.set_writer.specs.Body.{payload_of, IsBody};
 
@@ -29,7 +30,8 @@ impl<'a> Body<'a> {
     pub(crate) fn fragment(self, code: &Code, index: u8) -> &'a [u8]
         requires body { IsBody code.now.k code.now.p self }
         requires index { index < code.now.k + code.now.p }
-        ensures { result.now ≡ fragment code.now.k (payload_of self.entry) index }
+        ensures bytes { AreBytes (payload_of self.entry) }
+        ensures fragment { result.now ≡ fragment code.now.k (payload_of self.entry) index }
     {
         match self {
             Body::Empty => &[],

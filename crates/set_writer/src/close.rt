@@ -1,14 +1,16 @@
 ghost use Rattle.std.specs.Prelude.{◌≡◌, ◌+◌, ◌-◌, ◌*◌, ◌≤◌, ◌<◌, ◌++◌, replicate, false, true, length, take, IfSome, MatchResult, List};
 ghost use Rattle.rs_code.specs.Fragments.{fragment_len};
 ghost use Rattle.rs_code.specs.Coded.{KeepsFragments};
+ghost use Rattle.zone_bay.specs.Contents.{IsOfBay};
 ghost use Rattle.set_writer.specs.Refusal.{ShortRefusal};
 ghost use Rattle.smore_base.specs.declared.limits.TheConstants.{BLOCK_BYTES};
 ghost use Rattle.marker_format.specs.Block.{foot_block};
 ghost use Rattle.marker_format.specs.Zone.{blocks_of};
 ghost use Rattle.set_writer.specs.Entry.{Entry, entry_bytes, entries_bytes, IsEntry};
-ghost use Rattle.set_writer.specs.Members.{IsOfBay, IsOfCode, array_of, Spreads, Grows, HoldBlocks, AllHaveRoom};
+ghost use Rattle.set_writer.specs.Members.{IsOfCode, array_of, Spreads, Grows, HoldBlocks, AllHaveRoom};
 ghost use Rattle.set_writer.specs.Writer.{closed, parts_of, digest, digest_record, digest_marker, first_digests, blocks_in};
-ghost use Rattle.set_writer.specs.Fit.{has_enough};
+ghost use Rattle.set_writer.specs.Fit.{live_of, has_enough};
+ghost use Rattle.set_writer.specs.Rounds.{InRounds};
 ghost use Rattle.set_writer.specs.Calls.{IsOf, FitsIn, FitsSome, Closes};
 ghost use Rattle.set_writer.specs.Writer.{CanDigest};
 
@@ -43,6 +45,7 @@ impl SetWriter {
         ensures writer { self.new ≡ closed self.old }
         ensures closes { Closes self.old table.old table.new (B.state bay.old) (B.state bay.new) }
         ensures of { IsOf self.new table.new (B.state bay.new) }
+        ensures can { CanDigest self.old }
         ensures held { (es : List Entry) → FitsIn self.old es table.old (B.state bay.old)
             → FitsIn self.new es table.new (B.state bay.new) }
     {
@@ -81,6 +84,8 @@ impl SetWriter {
         ensures room { self.old.used + blocks_in (digest self.old) + 2 ≤ self.old.geometry.blocks }
         ensures can { CanDigest self.old }
         ensures of { IsOf self.new table.new (B.state bay.new) }
+        ensures firm { (B.state bay.new).firm ≡ (B.state bay.old).firm }
+        ensures calls { InRounds self.old.set (parts_of self.old) table.old table.new (B.state bay.old) (B.state bay.new) }
     {
         let mut blocks = 0;
         for part in 0..parts {
@@ -109,6 +114,7 @@ impl SetWriter {
         ensures blocks { result ≡ blocks_of (digest_marker self.old part) }
         ensures held { IfSome (B.state bay.new).contents
             (HoldBlocks table.new self.old.set (self.old.used + blocks_in (first_digests self.old (part + 1)))) }
+        ensures calls { (B.state bay.new).moment ≤ (B.state bay.old).moment + live_of table.old self.old.set }
     {
         let marker = self.digest_marker(part, parts);
         let from = part as usize * (self.code.k as usize * self.geometry.shard as usize);
@@ -164,9 +170,10 @@ fn put_pieces<B: Bay>(
     requires buffer { BLOCK_BYTES * blocks_of marker.now ≤ length out.old }
     requires room { IfSome (B.state bay.old).contents
         (AllHaveRoom table.old marker.now.set (BLOCK_BYTES * blocks_of marker.now)) }
-    ensures { Spreads marker.now.set (entry_bytes code.now.k
+    ensures spread { Spreads marker.now.set (entry_bytes code.now.k
         (record { marker = marker.now; payload = take pieces.entry.payload pieces.entry.fragments.now }))
         table.old table.new (B.state bay.old) (B.state bay.new) }
+    ensures calls { (B.state bay.new).moment ≤ (B.state bay.old).moment + live_of table.old marker.now.set }
 {
     let body = Body::Pieces(pieces);
     let item = Record { marker, body };
@@ -191,8 +198,9 @@ fn put_payload<B: Bay>(
     requires buffer { BLOCK_BYTES * blocks_of marker.now ≤ length out.old }
     requires room { IfSome (B.state bay.old).contents
         (AllHaveRoom table.old marker.now.set (BLOCK_BYTES * blocks_of marker.now)) }
-    ensures { Spreads marker.now.set (entry_bytes code.now.k (record { marker = marker.now; payload = payload.now }))
+    ensures spread { Spreads marker.now.set (entry_bytes code.now.k (record { marker = marker.now; payload = payload.now }))
         table.old table.new (B.state bay.old) (B.state bay.new) }
+    ensures calls { (B.state bay.new).moment ≤ (B.state bay.old).moment + live_of table.old marker.now.set }
 {
     let fragment = marker.fragment as usize;
     let fragments = &mut fragments[..code.n() as usize * fragment];
@@ -209,8 +217,9 @@ fn put_payload<B: Bay>(
 fn put_feet<B: Bay>(bay: &mut B, table: &mut SetTable, foot: Foot)
     requires shape { IsOfBay table.old.geometry (B.state bay.old).shape }
     requires room { IfSome (B.state bay.old).contents (AllHaveRoom table.old foot.set BLOCK_BYTES) }
-    ensures { Spreads foot.set (λ index. foot_block (record foot { index = index }))
+    ensures spread { Spreads foot.set (λ index. foot_block (record foot { index = index }))
         table.old table.new (B.state bay.old) (B.state bay.new) }
+    ensures calls { (B.state bay.new).moment ≤ (B.state bay.old).moment + live_of table.old foot.set }
 {
     let geometry = *table.geometry();
     for index in 0..geometry.k + geometry.p {

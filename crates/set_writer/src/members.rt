@@ -1,8 +1,11 @@
 //! Calls on the members of a set. A member whose call fails is lost, and gets no later call.
 ghost use Rattle.std.specs.Prelude.{◌≤◌, ◌+◌, ◌<◌, length, IfSome};
+ghost use Rattle.std.specs.Int.{from_bool};
+ghost use Rattle.zone_bay.specs.Contents.{IsOfBay};
 ghost use Rattle.set_table.specs.Zones.{carries};
-ghost use Rattle.set_writer.specs.Members.{IsOfBay, HasRoom, of_one, SpreadsBy, FlushesBy, Flushes};
-ghost use Rattle.set_table.specs.Table.{fragments_of};
+ghost use Rattle.set_writer.specs.Members.{HasRoom, of_one, SpreadsBy, FlushesBy, Flushes};
+ghost use Rattle.set_table.specs.Table.{is_carried};
+ghost use Rattle.set_writer.specs.Fit.{live_of};
 
 use set_table::SetTable;
 use zone_bay::Bay;
@@ -19,7 +22,7 @@ pub(crate) fn append_to<B: Bay>(
     requires room { IfSome (B.state bay.old).contents (HasRoom table.old set index (length bytes.now)) }
     ensures spread { SpreadsBy (of_one set index bytes.now) table.old table.new
         (B.state bay.old) (B.state bay.new) }
-    ensures calls { (B.state bay.new).moment ≤ (B.state bay.old).moment + 1 }
+    ensures calls { (B.state bay.new).moment ≤ (B.state bay.old).moment + from_bool (is_carried table.old set index) }
 {
     let _ = table.geometry();
     let Some((device, zone)) = table.carrier(set, index) else {
@@ -35,7 +38,7 @@ pub(crate) fn flush_of<B: Bay>(bay: &mut B, table: &mut SetTable, set: u64, inde
     requires shape { IsOfBay table.old.geometry (B.state bay.old).shape }
     ensures flushed { FlushesBy (carries set index) table.old table.new
         (B.state bay.old) (B.state bay.new) }
-    ensures calls { (B.state bay.new).moment ≤ (B.state bay.old).moment + 1 }
+    ensures calls { (B.state bay.new).moment ≤ (B.state bay.old).moment + from_bool (is_carried table.old set index) }
 {
     let _ = table.geometry();
     let Some((device, _)) = table.carrier(set, index) else {
@@ -50,7 +53,7 @@ pub(crate) fn flush_of<B: Bay>(bay: &mut B, table: &mut SetTable, set: u64, inde
 pub(crate) fn flush_all<B: Bay>(bay: &mut B, table: &mut SetTable, set: u64)
     requires shape { IsOfBay table.old.geometry (B.state bay.old).shape }
     ensures flushed { Flushes set table.old table.new (B.state bay.old) (B.state bay.new) }
-    ensures calls { (B.state bay.new).moment ≤ (B.state bay.old).moment + fragments_of table.old }
+    ensures calls { (B.state bay.new).moment ≤ (B.state bay.old).moment + live_of table.old set }
 {
     let geometry = *table.geometry();
     for index in 0..geometry.k + geometry.p {

@@ -1,13 +1,15 @@
-ghost use Rattle.std.specs.Prelude.{◌≡◌, ◌≤◌, ◌<◌, [], true, None, IfSome, MatchResult};
+ghost use Rattle.std.specs.Prelude.{◌≡◌, ◌≢◌, ◌+◌, ◌≤◌, ◌<◌, [], true, false, None, length, IfSome, OnOk, MatchResult};
 ghost use Rattle.marker_format.specs.declared.marker.TheConstants.{COUNTER_END};
 ghost use Rattle.set_table.specs.Table.{marks_of, HangsTogether};
-ghost use Rattle.set_writer.specs.Members.{MembersFirm, HoldBlocks};
-ghost use Rattle.set_writer.specs.Writer.{array_by, begun, opening, spare_of, EmptyHold};
+ghost use Rattle.set_writer.specs.Members.{MembersFirm, OthersStay, HoldBlocks};
+ghost use Rattle.set_writer.specs.Writer.{array_by, begun, opening, spare_of, EmptyHold, CanDigest};
 ghost use Rattle.set_writer.specs.Fit.{has_enough};
+ghost use Rattle.set_writer.specs.Rounds.{InRounds};
 ghost use Rattle.set_writer.specs.Refusal.{ShortRefusal};
-ghost use Rattle.set_writer.specs.Calls.{IsOf, FitsSome, Began, Ends, Follows, NextRefusal, StillFits, closes_first, ended};
+ghost use Rattle.set_writer.specs.Calls.{IsOf, FitsSome, Began, Ends, Follows, NextRefusal, StillFits, OldHolds, closes_first, ended};
 
 use crate::append::check_live;
+use crate::open::check_array;
 use crate::refusal::WriteRefusal;
 use crate::writer::{SetWriter, live_members};
 use set_table::SetTable;
@@ -35,7 +37,14 @@ impl SetWriter {
             (NextRefusal id least self.old self.new table.old table.new (B.state bay.old) (B.state bay.new)) }
         ensures spare { spare_of self.old ≤ spare_of self.new }
         ensures of { IsOf self.new table.new (B.state bay.new) }
+        ensures held { FitsSome self.new table.new (B.state bay.new) }
+        ensures can { closes_first self.old table.old ≡ true → CanDigest self.old }
+        ensures old { self.old.set ≢ id → OldHolds self.old table.old table.new (B.state bay.old) (B.state bay.new) }
+        ensures room { table.old.spare ≤ table.new.spare + 1 }
+        ensures own { OnOk result ((self.new.set ≡ id) × (self.new.is_closed ≡ false)) }
+        ensures array { length table.old.array ≡ 16 }
     {
+        check_array(table);
         if let Err(refusal) = self.end(bay, table) {
             return Err(refusal);
         }
@@ -58,6 +67,7 @@ impl SetWriter {
         ensures of { IsOf self.new table.new (B.state bay.new) }
         ensures together { HangsTogether table.old }
         ensures held { StillFits self.old self.new table.old table.new (B.state bay.old) (B.state bay.new) }
+        ensures can { closes_first self.old table.old ≡ true → CanDigest self.old }
     {
         let live = live_members(table, self.set);
         if self.is_closed || live < self.code.k {
@@ -74,6 +84,8 @@ impl SetWriter {
         ensures began { Began (begun self.old id) (opening (array_by self.old) id []) self.new
             table.old table.new (B.state bay.old) (B.state bay.new) }
         ensures firm { MembersFirm id table.new (B.state bay.new) }
+        ensures others { OthersStay id table.old (B.state bay.old) (B.state bay.new) }
+        ensures calls { InRounds id 3 table.old table.new (B.state bay.old) (B.state bay.new) }
     {
         self.set = id;
         self.used = 0;

@@ -1,12 +1,14 @@
 ghost use Rattle.std.specs.Prelude.{◌≡◌, ◌+◌, ◌*◌, ◌≤◌, ◌<◌, ℕ, [], false, true, None, length, IfSome, IfOk, MatchResult, List, All};
 ghost use Rattle.smore_base.specs.Geometry.{IsWithinLimits};
+ghost use Rattle.zone_bay.specs.Contents.{IsOfBay};
 ghost use Rattle.marker_format.specs.declared.marker.TheConstants.{COUNTER_END};
 ghost use Rattle.set_table.specs.Table.{marks_of, with_empty_of, HangsTogether};
 ghost use Rattle.set_writer.specs.Entry.{entry_bytes, entries_bytes};
-ghost use Rattle.set_writer.specs.Members.{IsOfBay, array_of, Grows, Spreads, MembersFirm, HoldBlocks};
+ghost use Rattle.set_writer.specs.Members.{array_of, Grows, Spreads, MembersFirm, OthersStay, HoldBlocks};
 ghost use Rattle.set_writer.specs.Writer.{array_by, begun, behind, written, opening, plain_marker, first_marker, first_record, EmptyHold};
-ghost use Rattle.set_writer.specs.Fit.{has_enough};
-ghost use Rattle.set_writer.specs.Calls.{IsOf, FitsIn, IsCuts, MayBegin, Began, Opens, OpenRefusal, WereEnough};
+ghost use Rattle.set_writer.specs.Fit.{live_of, has_enough};
+ghost use Rattle.set_writer.specs.Rounds.{InRounds};
+ghost use Rattle.set_writer.specs.Calls.{IsOf, FitsIn, IsCuts, MayBegin, Began, Opens, OpenRefusal, WereEnough, KeepsRoom};
 
 use crate::append::check_live;
 use crate::body::Body;
@@ -50,8 +52,16 @@ pub fn open_set<B: Bay>(
         (OpenRefusal id least cuts.now table.old table.new (B.state bay.old) (B.state bay.new)) }
     ensures drives { MatchResult result (λ _. least ≤ with_empty_of table.old) (WereEnough least table.old) }
     ensures of { IfOk result (λ w. IsOf w table.new (B.state bay.new)) }
+    ensures shape { IsOfBay table.new.geometry (B.state bay.new).shape }
+    ensures empty { IfSome (B.state bay.new).contents (EmptyHold table.new) }
+    ensures room { KeepsRoom table.old table.new result }
     ensures held { IfOk result (λ w. FitsIn w (opening (array_of table.old) id cuts.now) table.new (B.state bay.new)) }
+    ensures own { IfOk result (λ w. (w.set ≡ id) × (w.is_closed ≡ false)) }
+    ensures kept { All (λ cut. cut.1 < 65536) cuts.now }
+    ensures array { length table.old.array ≡ 16 }
 {
+    check_cuts(cuts);
+    check_array(table);
     let Ok(mut writer) = SetWriter::for_table(alloc, table, id, cuts.len()) else {
         return Err(WriteRefusal::Memory);
     };
@@ -66,6 +76,22 @@ pub fn open_set<B: Bay>(
         Ok(()) => Ok(writer),
         Err(refusal) => Err(refusal),
     }
+}
+
+/// Each cut keeps so few records that their number has a place in its marker: this only says so.
+fn check_cuts(cuts: &[(u64, u16)])
+    ensures { All (λ cut. cut.1 < 65536) cuts.now }
+{
+    for cut in cuts {
+        let _ = First::of_cut(*cut);
+    }
+}
+
+/// The array's number has 16 bytes: this only says so.
+pub(crate) fn check_array(table: &SetTable)
+    ensures { length table.now.array ≡ 16 }
+{
+    let _array = table.array();
 }
 
 impl SetWriter {
@@ -142,6 +168,8 @@ impl SetWriter {
         ensures began { Began self.old (opening (array_by self.old) self.old.set cuts.now) self.new
             table.old table.new (B.state bay.old) (B.state bay.new) }
         ensures firm { MembersFirm self.old.set table.new (B.state bay.new) }
+        ensures others { OthersStay self.old.set table.old (B.state bay.old) (B.state bay.new) }
+        ensures calls { InRounds self.old.set (length cuts.now + 3) table.old table.new (B.state bay.old) (B.state bay.new) }
     {
         let _ = &self.geometry;
         self.push_first(bay, table, First::Opens);
@@ -182,6 +210,7 @@ impl SetWriter {
             (first_record (array_by self.old) self.old.set self.old.records first))
             table.old table.new (B.state bay.old) (B.state bay.new) }
         ensures held { IfSome (B.state bay.new).contents (HoldBlocks table.new self.new.set self.new.used) }
+        ensures calls { (B.state bay.new).moment ≤ (B.state bay.old).moment + live_of table.old self.old.set }
     {
         let _ = &self.geometry;
         let marker = self.first_marker(first);

@@ -1,10 +1,15 @@
 //! A record in the zones of a set's members.
 ghost use Rattle.std.specs.Prelude.{◌≡◌, ◌+◌, ◌*◌, ◌≤◌, ◌<◌, length, IfSome};
+ghost use Rattle.std.specs.Int.{from_bool};
 ghost use Rattle.smore_base.specs.declared.limits.TheConstants.{BLOCK_BYTES};
+ghost use Rattle.zone_bay.specs.Contents.{IsOfBay};
+ghost use Rattle.set_table.specs.Table.{is_carried};
+ghost use Rattle.set_writer.specs.Fit.{live_of};
 ghost use Rattle.marker_format.specs.Zone.{blocks_of};
+ghost use Rattle.gf_field.specs.Field.{AreBytes};
 ghost use Rattle.set_writer.specs.Entry.{at_index, entry_bytes, IsEntry};
-ghost use Rattle.set_writer.specs.Body.{entry_of, IsBody};
-ghost use Rattle.set_writer.specs.Members.{IsOfBay, HasRoom, AllHaveRoom, IsOfCode, array_of, of_one, SpreadsBy, Spreads, FlushesBy};
+ghost use Rattle.set_writer.specs.Body.{payload_of, entry_of, IsBody};
+ghost use Rattle.set_writer.specs.Members.{HasRoom, AllHaveRoom, IsOfCode, array_of, of_one, SpreadsBy, Spreads, FlushesBy};
 
 use crate::body::Body;
 use crate::members::append_to;
@@ -37,10 +42,12 @@ fn put_on<B: Bay>(
     requires buffer { BLOCK_BYTES * blocks_of item.marker.now ≤ length out.old }
     requires room { IfSome (B.state bay.old).contents
         (HasRoom table.old item.marker.now.set index (BLOCK_BYTES * blocks_of item.marker.now)) }
+    ensures bytes { AreBytes (payload_of item.entry.body) }
     ensures spread { SpreadsBy (of_one item.entry.marker.now.set index
         (entry_bytes code.now.k (entry_of item.entry) index))
         table.old table.new (B.state bay.old) (B.state bay.new) }
-    ensures calls { (B.state bay.new).moment ≤ (B.state bay.old).moment + 1 }
+    ensures calls { (B.state bay.new).moment
+        ≤ (B.state bay.old).moment + from_bool (is_carried table.old item.entry.marker.now.set index) }
 {
     let marker = item.marker.at_index(index);
     let end = write_record(&marker, item.body.fragment(code, index), out);
@@ -62,9 +69,10 @@ pub(crate) fn put_all<B: Bay>(
     requires buffer { BLOCK_BYTES * blocks_of item.marker.now ≤ length out.old }
     requires room { IfSome (B.state bay.old).contents
         (AllHaveRoom table.old item.marker.now.set (BLOCK_BYTES * blocks_of item.marker.now)) }
+    ensures bytes { AreBytes (payload_of item.entry.body) }
     ensures spread { Spreads item.entry.marker.now.set (entry_bytes code.now.k (entry_of item.entry))
         table.old table.new (B.state bay.old) (B.state bay.new) }
-    ensures calls { (B.state bay.new).moment ≤ (B.state bay.old).moment + (code.now.k + code.now.p) }
+    ensures calls { (B.state bay.new).moment ≤ (B.state bay.old).moment + live_of table.old item.entry.marker.now.set }
 {
     for index in 0..code.k + code.p {
         put_on(bay, table, code, item, index, out);

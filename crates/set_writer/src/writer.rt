@@ -1,8 +1,8 @@
-ghost use Rattle.std.specs.Prelude.{◌≡◌, ◌+◌, ◌*◌, ◌≤◌, ◌<◌, length, OnOk, List};
+ghost use Rattle.std.specs.Prelude.{◌≡◌, ◌+◌, ◌*◌, ◌≤◌, ◌<◌, false, length, OnOk, List};
 ghost use Rattle.smore_base.specs.declared.limits.TheConstants.{BLOCK_BYTES};
 ghost use Rattle.zone_bay.specs.Contents.{Contents};
 ghost use Rattle.set_writer.specs.Entry.{Entry};
-ghost use Rattle.set_writer.specs.Writer.{Writer, spare_of, Fits};
+ghost use Rattle.set_writer.specs.Writer.{Writer, CanDigest, spare_of, Fits};
 ghost use Rattle.set_writer.specs.Fit.{live_of, has_enough};
 ghost use Rattle.set_table.specs.Table.{Table, HangsTogether};
 
@@ -110,6 +110,15 @@ impl SetWriter {
         ensures { result ≡ self.now.is_closed }
     {
         self.is_closed
+    }
+
+    /// Does nothing. Its contract says that a set which isn't closed can be: its digest, a foot and a trailer fit it.
+    pub fn can_be_closed(&self)
+        ensures { self.now.is_closed ≡ false → CanDigest self.now }
+    {
+        let id: &[u8] = &self.array;
+        let bytes = id.len();
+        prove!(bytes == 16);
     }
 
     /// How many of the set's members are live.

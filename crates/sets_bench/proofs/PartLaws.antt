@@ -6,7 +6,7 @@ use Rattle.std.specs.Str.{bytes_eq}
 use Rattle.std.proofs.lemmas.Bool.{le-leb, and_parts, eqb-true}
 use Rattle.std.proofs.lemmas.Slice.Eq.{bytes_eq-Decides}
 use Rattle.smore_base.specs.declared.geometry.Geometry.{Geometry}
-use Rattle.zone_bay.specs.Contents.{Contents}
+use Rattle.zone_bay.specs.Contents.{Contents, IsOfBay}
 use Rattle.zone_bay.specs.Bay.{BayState}
 use Rattle.rs_code.specs.Coded.{CodedPayload}
 use Rattle.marker_format.specs.declared.marker.Marker.{Marker}
@@ -17,7 +17,7 @@ use Rattle.marker_format.specs.Zone.{Array, belongs}
 use Rattle.marker_format.proofs.MarkerRules.{Widths, IsMarker-from}
 use Rattle.set_table.specs.Table.{Table}
 use Rattle.set_writer.specs.Entry.{Entry, at_index}
-use Rattle.set_writer.specs.Members.{array_of, IsOfBay, Spreads}
+use Rattle.set_writer.specs.Members.{array_of, Spreads}
 use Rattle.set_writer.specs.Writer.{Writer, array_by, behind, written, Fits, is_appended, IsAppended}
 use Rattle.set_writer.specs.Calls.{FitsIn, IsOf, Opens}
 use Rattle.set_writer.proofs.BeganLaws.{of_now}

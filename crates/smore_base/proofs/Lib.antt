@@ -1,3 +1,4 @@
 pub mod BigEndianLaws
+pub mod GeometryLaws
 pub mod RoomLaws
 pub mod Told

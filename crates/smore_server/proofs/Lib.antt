@@ -1,1 +1,1 @@
-pub mod Geometries
+pub mod Options

@@ -5,3 +5,4 @@ pub mod Extends
 pub mod Images
 pub mod Stretch
 pub mod Toward
+pub mod TowardThen

@@ -1,11 +1,18 @@
 -- What the zones of an array hold, and what may be made of it.
-use Rattle.std.specs.Prelude.{◌≡◌, ℕ, ◌&&◌, ◌==◌, List, [], ◌++◌, length, take, drop, if◌then◌else◌}
+use Rattle.std.specs.Prelude.{◌≡◌, ℕ, ◌+◌, ◌&&◌, ◌==◌, List, [], ◌++◌, length, take, drop, if◌then◌else◌}
+use Rattle.smore_base.specs.declared.geometry.Geometry.{Geometry}
 
 -- how many devices, zones of each device and blocks of each zone
 pub record Shape : Type 0 where
   pub devices : ℕ
   pub zones : ℕ
   pub blocks : ℕ
+
+-- the geometry is the bay's: the last device is the flash
+pub record IsOfBay (g : Geometry) (shape : Shape) : Type 0 where
+  pub devices : g.drives + 1 ≡ shape.devices
+  pub zones : g.zones ≡ shape.zones
+  pub blocks : g.blocks ≡ shape.blocks
 
 -- the bytes of each zone, by device and zone
 abbrev pub Contents : Type 0

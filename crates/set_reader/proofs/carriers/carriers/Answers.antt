@@ -12,7 +12,7 @@ push-requires c =
 pub loop-index-preserved : goal.loop-index-preserved
 loop-index-preserved c =
     subst (CarriersBelow c.args.table.now c.args.set (c.loop-index.index + 1)) (sym c.push.ensures.items)
-    (below_more c.args.table.now c.args.set c.loop-index.index c.loop-index.members.items _ c.geometry-geometry.ensures.together.drives refl c.in-Some.ensures c.loop-index.invariant)
+    (below_more c.args.table.now c.args.set c.loop-index.index c.loop-index.members.items _ c.geometry-geometry.ensures.together.drives (omega (arith, c.loop-index-test.true, ap (λ (g : Geometry). g.k + g.p) c.geometry-geometry.ensures.same)) refl c.in-Some.ensures c.loop-index.invariant)
 
 pub loop-index-preserved-in_default : goal.loop-index-preserved-in_default
 loop-index-preserved-in_default c = below_past c.args.table.now c.args.set c.loop-index.index c.loop-index.members.items c.geometry-geometry.ensures.together.drives c.in_default.ensures c.loop-index.invariant

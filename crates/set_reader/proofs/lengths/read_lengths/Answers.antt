@@ -1,8 +1,10 @@
-use Rattle.std.proofs.Common.{ℕ, ap, sym, subst, ◌∙◌, arith}
+use Rattle.std.proofs.Common.{ℕ, ◌+◌, ◌*◌, ap, sym, subst, ◌∙◌, arith}
 use Rattle.set_table.specs.Table.{Table}
+use Rattle.set_reader.specs.Calls.{losses}
 use Rattle.set_reader.specs.Record.{TellsLengths, AreLengths}
-use Rattle.set_reader.proofs.Told.{told_at, told_from}
-use Rattle.set_reader.proofs.RoundLaws.{last_round, still_stands}
+use Rattle.set_reader.proofs.Told.{told_at, told_from, none_at}
+use Rattle.set_reader.proofs.CallLaws.{calls_more}
+use Rattle.set_reader.proofs.RoundLaws.{one_round, last_round, last_attempt, still_stands}
 use Rattle.set_reader.proofs.lengths.read_lengths.Goals as goal
 
 pub try_lengths-requires-clause-stands : goal.try_lengths-requires-clause-stands
@@ -17,8 +19,9 @@ try_lengths-requires-clause-stands g c =
 
 pub returns-in_err-lengths-clause-few : goal.returns-in_err-lengths-clause-few
 returns-in_err-lengths-clause-few g c =
-    let few = last_round 1 c.args.table.now c.loop-lengths.table c.try_lengths.new.table (g.B.Bay.state c.args.bay.now) (g.B.Bay.state c.loop-lengths.bay) (g.B.Bay.state c.try_lengths.new.bay) c.loop-lengths.invariant c.in_err-lengths.ensures.reads c.in_err-lengths.ensures.once in
-    omega (arith, few)
+    let n = losses c.args.table.now c.try_lengths.new.table in
+    calls_more (1 * (1 + n)) (1 + n) (g.B.Bay.state c.args.bay.now) (g.B.Bay.state c.try_lengths.new.bay) (omega arith)
+    (last_round 1 c.args.table.now c.loop-lengths.table c.try_lengths.new.table (g.B.Bay.state c.args.bay.now) (g.B.Bay.state c.loop-lengths.bay) (g.B.Bay.state c.try_lengths.new.bay) c.loop-lengths.invariant c.in_err-lengths.ensures.reads c.in_err-lengths.ensures.once)
 
 pub returns-in-Some-clause-lengths : goal.returns-in-Some-clause-lengths
 returns-in-Some-clause-lengths g c =
@@ -33,5 +36,20 @@ returns-in-Some-clause-lengths g c =
 
 pub returns-in-Some-clause-few : goal.returns-in-Some-clause-few
 returns-in-Some-clause-few g c =
-    let few = last_round 1 c.args.table.now c.loop-lengths.table c.try_lengths.new.table (g.B.Bay.state c.args.bay.now) (g.B.Bay.state c.loop-lengths.bay) (g.B.Bay.state c.try_lengths.new.bay) c.loop-lengths.invariant c.in_ok-lengths.ensures.reads c.in_ok-lengths.ensures.once in
-    omega (arith, few)
+    let n = losses c.args.table.now c.try_lengths.new.table in
+    calls_more (1 * (1 + n)) (1 + n) (g.B.Bay.state c.args.bay.now) (g.B.Bay.state c.try_lengths.new.bay) (omega arith)
+    (last_round 1 c.args.table.now c.loop-lengths.table c.try_lengths.new.table (g.B.Bay.state c.args.bay.now) (g.B.Bay.state c.loop-lengths.bay) (g.B.Bay.state c.try_lengths.new.bay) c.loop-lengths.invariant c.in_ok-lengths.ensures.reads c.in_ok-lengths.ensures.once)
+
+pub returns-in_err-lengths-clause-attempts : goal.returns-in_err-lengths-clause-attempts
+returns-in_err-lengths-clause-attempts g c =
+    last_attempt 1 c.args.table.now c.loop-lengths.table c.try_lengths.new.table (g.B.Bay.state c.args.bay.now) (g.B.Bay.state c.loop-lengths.bay) (g.B.Bay.state c.try_lengths.new.bay) c.loop-lengths.invariant c.in_err-lengths.ensures.reads c.in_err-lengths.ensures.given_up
+
+pub returns-in-Some-clause-attempts : goal.returns-in-Some-clause-attempts
+returns-in-Some-clause-attempts g c =
+    last_attempt 1 c.args.table.now c.loop-lengths.table c.try_lengths.new.table (g.B.Bay.state c.args.bay.now) (g.B.Bay.state c.loop-lengths.bay) (g.B.Bay.state c.try_lengths.new.bay) c.loop-lengths.invariant c.in_ok-lengths.ensures.reads
+    (told_at c.in_ok-lengths.field-0 _ c.in-Some.lengths c.in-Some.is c.in_ok-lengths.ensures.answered)
+
+pub loop-lengths-preserved : goal.loop-lengths-preserved
+loop-lengths-preserved g c =
+    one_round 1 c.args.table.now c.loop-lengths.table c.try_lengths.new.table (g.B.Bay.state c.args.bay.now) (g.B.Bay.state c.loop-lengths.bay) (g.B.Bay.state c.try_lengths.new.bay) c.loop-lengths.invariant c.in_ok-lengths.ensures.reads
+    (none_at c.in_ok-lengths.field-0 _ c.in_default.is c.in_ok-lengths.ensures.lost) c.in_ok-lengths.ensures.once (none_at c.in_ok-lengths.field-0 _ c.in_default.is c.in_ok-lengths.ensures.failed)

@@ -5,6 +5,7 @@ use Rattle.set_reader.specs.Record.{IsCut}
 use Rattle.set_reader.proofs.Told.{told_at, told_from}
 use Rattle.set_reader.proofs.LossLaws.{reads_then}
 use Rattle.set_reader.proofs.RoundLaws.{still_stands, both_few}
+use Rattle.set_reader.proofs.AttemptLaws.{no_fragments, with_fragments}
 use Rattle.set_reader.proofs.PayloadLaws.{no_payload, payload_read}
 use Rattle.set_reader.proofs.record.append_payload.Goals as goal
 
@@ -54,3 +55,24 @@ pub returns-clause-few : goal.returns-clause-few
 returns-clause-few g c =
     both_few c.args.table.now c.read_lengths.new.table c.read_sources.new.table (g.B.Bay.state c.args.bay.now) (g.B.Bay.state c.read_lengths.new.bay) (g.B.Bay.state c.read_sources.new.bay)
     c.in_ok-lengths.ensures.some c.in_ok-lengths.ensures.reads c.in_ok-read_sources.ensures.reads c.in_ok-lengths.ensures.few c.in_ok-read_sources.ensures.few
+
+pub returns-in_err-read_sources-clause-attempts : goal.returns-in_err-read_sources-clause-attempts
+returns-in_err-read_sources-clause-attempts g c =
+    let old = g.B.Bay.state c.args.bay.now in
+    let reads = c.in_ok-lengths.ensures.reads in
+    with_fragments c.args.table.now c.read_lengths.new.table c.read_sources.new.table c.args.place.now old (g.B.Bay.state c.read_lengths.new.bay) (g.B.Bay.state c.read_sources.new.bay) c.in_ok-lengths.lengths.payload
+    (ap (λ (x : Table). x.geometry.k) reads.table) c.in_err-read_sources.ensures.reads.bay.goes_on.keeps_failed c.if-lengths-eq0.false
+    (told_from old.contents _ (λ held is m stands. (told_at old.contents _ held is c.in_ok-lengths.ensures.lengths m stands).payload))
+    c.in_ok-lengths.ensures.attempts c.in_err-read_sources.ensures.attempts
+
+pub returns-clause-attempts : goal.returns-clause-attempts
+returns-clause-attempts g c =
+    let old = g.B.Bay.state c.args.bay.now in
+    let reads = c.in_ok-lengths.ensures.reads in
+    with_fragments c.args.table.now c.read_lengths.new.table c.read_sources.new.table c.args.place.now old (g.B.Bay.state c.read_lengths.new.bay) (g.B.Bay.state c.read_sources.new.bay) c.in_ok-lengths.lengths.payload
+    (ap (λ (x : Table). x.geometry.k) reads.table) c.in_ok-read_sources.ensures.reads.bay.goes_on.keeps_failed c.if-lengths-eq0.false
+    (told_from old.contents _ (λ held is m stands. (told_at old.contents _ held is c.in_ok-lengths.ensures.lengths m stands).payload))
+    c.in_ok-lengths.ensures.attempts c.in_ok-read_sources.ensures.attempts
+
+pub returns-in_err-lengths-clause-attempts : goal.returns-in_err-lengths-clause-attempts
+returns-in_err-lengths-clause-attempts g c = no_fragments c.args.table.now c.read_lengths.new.table c.args.place.now (g.B.Bay.state c.args.bay.now) (g.B.Bay.state c.read_lengths.new.bay) c.in_err-lengths.ensures.attempts

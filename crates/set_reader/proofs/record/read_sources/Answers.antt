@@ -1,8 +1,10 @@
 use Rattle.std.proofs.Common.{ℕ, ap, sym, subst, ◌∙◌}
-use Rattle.zone_bay.specs.Stretch.{ReadsAtMost}
 use Rattle.set_table.specs.Table.{Table}
+use Rattle.set_writer.specs.Rounds.{point_at}
+use Rattle.set_reader.specs.Attempts.{Answered, Failed}
+use Rattle.set_reader.specs.Calls.{CallsAtMost}
 use Rattle.set_reader.proofs.Told.{told_at, told_from}
-use Rattle.set_reader.proofs.RoundLaws.{last_round, still_stands}
+use Rattle.set_reader.proofs.RoundLaws.{one_round, last_round, last_attempt, still_stands}
 use Rattle.set_reader.proofs.record.read_sources.Goals as goal
 
 pub try_sources-requires-clause-stands : goal.try_sources-requires-clause-stands
@@ -22,7 +24,7 @@ returns-in_err-try_sources-clause-few g c =
     let new = g.B.Bay.state c.try_sources.new.bay in
     let same = ap (λ (x : Table). x.geometry.k) c.loop.invariant.0.reads.table in
     last_round t.geometry.k t c.loop.table c.try_sources.new.table (g.B.Bay.state c.args.bay.now) mid new c.loop.invariant.0 c.in_err-try_sources.ensures.reads
-    (subst (λ (n : ℕ). ReadsAtMost n mid new) same c.in_err-try_sources.ensures.few)
+    (subst (λ (n : ℕ). CallsAtMost n mid new) same c.in_err-try_sources.ensures.few)
 
 pub returns-then-branch-clause-sources : goal.returns-then-branch-clause-sources
 returns-then-branch-clause-sources g c =
@@ -40,4 +42,41 @@ returns-then-branch-clause-few g c =
     let new = g.B.Bay.state c.try_sources.new.bay in
     let same = ap (λ (x : Table). x.geometry.k) c.loop.invariant.0.reads.table in
     last_round t.geometry.k t c.loop.table c.try_sources.new.table (g.B.Bay.state c.args.bay.now) mid new c.loop.invariant.0 c.in_ok-try_sources.ensures.reads
-    (subst (λ (n : ℕ). ReadsAtMost n mid new) same c.in_ok-try_sources.ensures.few)
+    (subst (λ (n : ℕ). CallsAtMost n mid new) same c.in_ok-try_sources.ensures.few)
+
+pub returns-in_err-try_sources-clause-attempts : goal.returns-in_err-try_sources-clause-attempts
+returns-in_err-try_sources-clause-attempts g c =
+    let t = c.args.table.now in
+    let now = c.loop.table in
+    let next = c.try_sources.new.table in
+    let mid = g.B.Bay.state c.loop.bay in
+    let new = g.B.Bay.state c.try_sources.new.bay in
+    let same = ap (λ (x : Table). x.geometry.k) c.loop.invariant.0.reads.table in
+    last_attempt t.geometry.k t now next (g.B.Bay.state c.args.bay.now) mid new c.loop.invariant.0 c.in_err-try_sources.ensures.reads
+    (subst (λ (n : ℕ). Answered n (point_at now mid) (point_at next new)) same c.in_err-try_sources.ensures.given_up)
+
+pub returns-then-branch-clause-attempts : goal.returns-then-branch-clause-attempts
+returns-then-branch-clause-attempts g c =
+    let t = c.args.table.now in
+    let now = c.loop.table in
+    let next = c.try_sources.new.table in
+    let mid = g.B.Bay.state c.loop.bay in
+    let new = g.B.Bay.state c.try_sources.new.bay in
+    let same = ap (λ (x : Table). x.geometry.k) c.loop.invariant.0.reads.table in
+    last_attempt t.geometry.k t now next (g.B.Bay.state c.args.bay.now) mid new c.loop.invariant.0 c.in_ok-try_sources.ensures.reads
+    (subst (λ (n : ℕ). Answered n (point_at now mid) (point_at next new)) same (c.in_ok-try_sources.ensures.answered c.if-branch.true))
+
+pub loop-preserved : goal.loop-preserved
+loop-preserved g c =
+    let t = c.args.table.now in
+    let now = c.loop.table in
+    let next = c.try_sources.new.table in
+    let mid = g.B.Bay.state c.loop.bay in
+    let new = g.B.Bay.state c.try_sources.new.bay in
+    let same = ap (λ (x : Table). x.geometry.k) c.loop.invariant.0.reads.table in (
+      one_round t.geometry.k t now next (g.B.Bay.state c.args.bay.now) mid new c.loop.invariant.0 c.in_ok-try_sources.ensures.reads (c.in_ok-try_sources.ensures.lost c.if-branch.false)
+          (subst (λ (n : ℕ). CallsAtMost n mid new) same c.in_ok-try_sources.ensures.few)
+          (subst (λ (n : ℕ). Failed n new.failed (point_at now mid) (point_at next new)) same (c.in_ok-try_sources.ensures.failed c.if-branch.false)),
+      c.in_ok-try_sources.ensures.kept ∙ c.loop.invariant.1,
+      c.in_ok-try_sources.ensures.from,
+    )

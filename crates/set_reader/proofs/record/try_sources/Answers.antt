@@ -5,9 +5,12 @@ use Rattle.set_table.specs.declared.members.Member.{Member}
 use Rattle.set_table.specs.Table.{Table}
 use Rattle.set_reader.specs.Carriers.{carriers_by, AreCarriers}
 use Rattle.set_reader.specs.Calls.{OnlyReadsBy, live_count}
+use Rattle.set_writer.specs.Rounds.{point_at}
+use Rattle.set_reader.specs.Attempts.{Failed}
+use Rattle.set_reader.proofs.AttemptLaws.{attempt_failed}
 use Rattle.set_reader.specs.Rows.{IsInBay, HasBlocks, space_of, indexes_of}
 use Rattle.set_reader.proofs.Told.{told_at, told_from}
-use Rattle.set_reader.proofs.LossLaws.{within, count_falls, reads_lost}
+use Rattle.set_reader.proofs.LossLaws.{lost_of, within, count_falls, reads_lost}
 use Rattle.set_reader.proofs.FirstLaws.{first_all, in_bay, has_blocks, first_indexes, devices_are_live, begins}
 use Rattle.set_reader.proofs.SourceLaws.{written_part, space_holds}
 use Rattle.std.proofs.lemmas.List.{length-take, length-drop, length-take-le}
@@ -94,3 +97,16 @@ returns-in-Err-clause-reads g c =
     let old = g.B.Bay.state c.args.bay.now in
     let new = g.B.Bay.state c.fill.new.bay in
     subst (λ (x : Table). OnlyReadsBy t x old new) (sym c.lose.ensures) (reads_lost t c.in-Err.device live _ old new c.in-Err.ensures.reads)
+
+pub returns-in-Err-clause-failed : goal.returns-in-Err-clause-failed
+returns-in-Err-clause-failed g c =
+    let t = c.args.table.now in
+    let all = c.deref.result.now in
+    let set = c.args.place.now.set in
+    let are = borrowed t set all _ c.deref.ensures.0 c.in_ok-members.ensures.carriers in
+    let live = devices_are_live t set c.geometry.result.now.k c.in-Err.device all are.each c.in-Err.ensures.device in
+    let old = g.B.Bay.state c.args.bay.now in
+    let new = g.B.Bay.state c.fill.new.bay in
+    let k = ap (λ (g : Geometry). g.k) c.geometry.ensures.same in
+    λ no. subst (λ (x : Table). Failed t.geometry.k new.failed (point_at t old) (point_at x new)) (sym c.lose.ensures)
+    (subst (λ (n : ℕ). Failed n new.failed (point_at t old) (point_at (lost_of t c.in-Err.device) new)) k (attempt_failed t c.in-Err.device c.geometry.result.now.k old new live c.in-Err.ensures.reads))

@@ -19,13 +19,13 @@ end_is t e k p index f entry code below is = ap (λ n. 512 * (1 + div_ceil n 511
 
 pub write_record-end-requires-clause-room : goal.write_record-end-requires-clause-room
 write_record-end-requires-clause-room g c =
-    let e = end_is c.args.table.now (entry_of c.args.item) c.args.code.now.k c.args.code.now.p c.args.index c.fragment.result.now c.requires.entry c.requires.code c.requires.index c.fragment.ensures in
+    let e = end_is c.args.table.now (entry_of c.args.item) c.args.code.now.k c.args.code.now.p c.args.index c.fragment.result.now c.requires.entry c.requires.code c.requires.index c.fragment.ensures.fragment in
     let b = c.requires.buffer in
     omega (arith, e, b)
 
 pub slice_bounds-append_to-end : goal.slice_bounds-append_to-end
 slice_bounds-append_to-end g c =
-    let e = end_is c.args.table.now (entry_of c.args.item) c.args.code.now.k c.args.code.now.p c.args.index c.fragment.result.now c.requires.entry c.requires.code c.requires.index c.fragment.ensures in
+    let e = end_is c.args.table.now (entry_of c.args.item) c.args.code.now.k c.args.code.now.p c.args.index c.fragment.result.now c.requires.entry c.requires.code c.requires.index c.fragment.ensures.fragment in
     let b = c.requires.buffer in
     let end = c.write_record-end.ensures.end in
     let same = c.write_record-end.auto.out in
@@ -33,7 +33,7 @@ slice_bounds-append_to-end g c =
 
 pub slice_bounds-append_to-end-2 : goal.slice_bounds-append_to-end-2
 slice_bounds-append_to-end-2 g c =
-    let e = end_is c.args.table.now (entry_of c.args.item) c.args.code.now.k c.args.code.now.p c.args.index c.fragment.result.now c.requires.entry c.requires.code c.requires.index c.fragment.ensures in
+    let e = end_is c.args.table.now (entry_of c.args.item) c.args.code.now.k c.args.code.now.p c.args.index c.fragment.result.now c.requires.entry c.requires.code c.requires.index c.fragment.ensures.fragment in
     let b = c.requires.buffer in
     let end = c.write_record-end.ensures.end in
     let same = c.write_record-end.auto.out in
@@ -45,7 +45,7 @@ written t e k p index end f out old entry code below is end_ = end_ ∙ end_is t
 
 pub append_to-requires-clause-room : goal.append_to-requires-clause-room
 append_to-requires-clause-room g c =
-    let e = end_is c.args.table.now (entry_of c.args.item) c.args.code.now.k c.args.code.now.p c.args.index c.fragment.result.now c.requires.entry c.requires.code c.requires.index c.fragment.ensures in
+    let e = end_is c.args.table.now (entry_of c.args.item) c.args.code.now.k c.args.code.now.p c.args.index c.fragment.result.now c.requires.entry c.requires.code c.requires.index c.fragment.ensures.fragment in
     let b = c.requires.buffer in
     let end = c.write_record-end.ensures.end in
     let same = c.write_record-end.auto.out in
@@ -58,6 +58,6 @@ returns-clause-spread g c =
     let t = c.args.table.now in
     let e = entry_of c.args.item in
     let k = c.args.code.now.k in
-    let size = written t e k c.args.code.now.p c.args.index c.write_record-end.result c.fragment.result.now c.write_record-end.new.out c.args.out.now c.requires.entry c.requires.code c.requires.index c.fragment.ensures c.write_record-end.ensures.end in
-    let is = entry_written k c.args.index e c.at_index-marker.result c.fragment.result.now c.args.out.now c.write_record-end.new.out c.write_record-end.result c.at_index-marker.ensures c.fragment.ensures c.write_record-end.ensures.written size in
+    let size = written t e k c.args.code.now.p c.args.index c.write_record-end.result c.fragment.result.now c.write_record-end.new.out c.args.out.now c.requires.entry c.requires.code c.requires.index c.fragment.ensures.fragment c.write_record-end.ensures.end in
+    let is = entry_written k c.args.index e c.at_index-marker.result c.fragment.result.now c.args.out.now c.write_record-end.new.out c.write_record-end.result c.at_index-marker.ensures c.fragment.ensures.fragment c.write_record-end.ensures.written size in
     subst (λ (l : List ℕ). SpreadsBy (of_one c.args.item.marker.now.set c.args.index l) t c.append_to.new.table (g.B.Bay.state c.args.bay.now) (g.B.Bay.state c.append_to.new.bay)) is c.append_to.ensures.spread

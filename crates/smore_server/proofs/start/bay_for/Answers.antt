@@ -3,7 +3,8 @@ use Rattle.bay_files.specs.Counts.{shape_in}
 use Rattle.smore_base.specs.Geometry.{first_fault}
 use Rattle.smore_top.specs.Words.{Spell, RefusedFor}
 use Rattle.smore_top.specs.declared.command.Command.TheVariants.{Format, Batch}
-use Rattle.smore_server.proofs.Geometries.{within_first, at_none}
+use Rattle.smore_base.proofs.GeometryLaws.{within_first}
+use Rattle.smore_server.proofs.Options.{at_none}
 use Rattle.smore_server.proofs.start.bay_for.Goals as goal
 use Rattle.smore_server.proofs.start.bay_for.Goals.{in-Format, in-Batch}
 

@@ -1,4 +1,4 @@
-use Rattle.std.proofs.Common.{◌≡◌, ℕ, ◌+◌, sym, ap, subst, ◌∙◌, arith}
+use Rattle.std.proofs.Common.{◌≡◌, ℕ, ◌+◌, ◌≤◌, sym, ap, subst, ◌∙◌, arith}
 use Rattle.std.specs.Prelude.{IfSome}
 use Rattle.marker_format.specs.Zone.{Array}
 use Rattle.set_table.specs.Table.{Table}
@@ -7,6 +7,7 @@ use Rattle.marker_format.specs.Block.{foot_block}
 use Rattle.set_writer.specs.Entry.{entries_bytes}
 use Rattle.set_writer.specs.Members.{Grows, Flushes, AllHaveRoom}
 use Rattle.set_writer.specs.Writer.{Writer, foot_bytes, digest, blocks_in, parts_of}
+use Rattle.set_writer.specs.Fit.{live_of}
 use Rattle.set_writer.specs.Calls.{FitsIn}
 use Rattle.set_writer.proofs.WroteLaws.{fits_hold}
 use Rattle.set_writer.proofs.FitLaws.{room_for}
@@ -56,15 +57,21 @@ calls w v u parts t t1 t2 t3 t4 t5 s0 s1 s2 s3 s4 s5 v_is u_is parts_is a b c d 
   last = subst (λ (x : Writer). Flushes x.set t4 t5 s4 s5) u_is e;
 }
 
+-- no more calls than live members, in words of the writer before
+few_by : (v w : Writer) → v ≡ w → (t : Table) (before after : ℕ) → after ≤ before + live_of t v.set → after ≤ before + live_of t w.set
+few_by v w is t before after few = subst (λ (x : Writer). after ≤ before + live_of t x.set) is few
+
 pub returns-clause-closes : goal.returns-clause-closes
 returns-clause-closes g c =
     let w = c.args.self.now in
     let parts : c.digest_records-parts.result ≡ parts_of w = c.digest_records-parts.ensures ∙ ap parts_of c.self.view_is in
-    let it = calls w _ _ c.digest_records-parts.result c.args.table.now c.flush_all.new.table c.put_digest-blocks.new.table c.flush_all-2.new.table c.put_feet.new.table c.flush_all-3.new.table _ _ _ _ _ _ c.self.view_is (c.self-2.view_is ∙ c.put_digest-blocks.ensures.writer) parts
-    c.flush_all.ensures.flushed c.put_digest-blocks.ensures.grows c.flush_all-2.ensures.flushed c.put_feet.ensures.grows c.flush_all-3.ensures.flushed in
+    let behind = c.self-2.view_is ∙ c.put_digest-blocks.ensures.writer in
+    let it = calls w _ _ c.digest_records-parts.result c.args.table.now c.flush_all.new.table c.put_digest-blocks.new.table c.flush_all-2.new.table c.put_feet.new.table c.flush_all-3.new.table _ _ _ _ _ _ c.self.view_is behind parts
+    c.flush_all.ensures.flushed c.put_digest-blocks.ensures.grows c.flush_all-2.ensures.flushed c.put_feet.ensures.spread.grows c.flush_all-3.ensures.flushed in
     closes w c.args.table.now c.flush_all.new.table c.put_digest-blocks.new.table c.flush_all-2.new.table c.put_feet.new.table c.flush_all-3.new.table _ _ _ _ _ _
     (g.met.B.Bay.sound c.args.bay.now) (g.met.B.Bay.sound c.flush_all.new.bay) (g.met.B.Bay.sound c.put_digest-blocks.new.bay) (g.met.B.Bay.sound c.flush_all-2.new.bay) (g.met.B.Bay.sound c.put_feet.new.bay)
     it.flushed it.digested it.firm it.feet it.last
+    (few_by _ w c.self.view_is c.args.table.now (g.B.Bay.state c.args.bay.now).moment (g.B.Bay.state c.flush_all.new.bay).moment c.flush_all.ensures.calls) c.put_digest-blocks.ensures.calls (few_by _ w behind c.put_digest-blocks.new.table (g.B.Bay.state c.put_digest-blocks.new.bay).moment (g.B.Bay.state c.flush_all-2.new.bay).moment c.flush_all-2.ensures.calls) (few_by _ w behind c.flush_all-2.new.table (g.B.Bay.state c.flush_all-2.new.bay).moment (g.B.Bay.state c.put_feet.new.bay).moment c.put_feet.ensures.calls) (few_by _ w behind c.put_feet.new.table (g.B.Bay.state c.put_feet.new.bay).moment (g.B.Bay.state c.flush_all-3.new.bay).moment c.flush_all-3.ensures.calls) c.put_digest-blocks.ensures.firm c.put_feet.ensures.spread.firm
 
 pub returns-clause-held : goal.returns-clause-held
 returns-clause-held g c =

@@ -50,3 +50,6 @@ returns-clause-held g c =
     let blocks : w.used + blocks_of c.args.item.marker.now ≡ c.self.inside.used + c.record_blocks.result = omega (arith, used_is, c.record_blocks.ensures, c.from.ensures) in
     subst (λ s. IfSome (g.B.Bay.state c.put_all.new.bay).contents (HoldBlocks c.put_all.new.table s (c.self.inside.used + c.record_blocks.result))) (c.requires.set ∙ sym set_is)
     (subst (λ n. IfSome (g.B.Bay.state c.put_all.new.bay).contents (HoldBlocks c.put_all.new.table c.args.item.marker.now.set n)) blocks now)
+
+pub returns-clause-bytes : goal.returns-clause-bytes
+returns-clause-bytes g c = record { payload = c.put_all.ensures.bytes; name = c.spelled_line-line.ensures.name }

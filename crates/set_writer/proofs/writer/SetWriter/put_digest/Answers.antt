@@ -4,6 +4,7 @@ use Rattle.set_writer.specs.Entry.{entries_bytes}
 use Rattle.set_writer.specs.Members.{Grows, HoldBlocks}
 use Rattle.set_writer.specs.Writer.{Writer, parts_of, first_digests, blocks_in}
 use Rattle.set_writer.specs.Calls.{IsOf}
+use Rattle.set_writer.specs.Rounds.{InRounds}
 use Rattle.set_writer.proofs.PartLaws.{digested_none, digested_more, digested_fits}
 use Rattle.set_writer.proofs.writer.SetWriter.put_digest.Goals as goal
 
@@ -27,7 +28,7 @@ put_digest_record-blocks-requires-clause-held g c = subst (λ (w : Writer). IfSo
 
 pub loop-part-preserved : goal.loop-part-preserved
 loop-part-preserved g c = digested_more c.args.self.now c.loop-part.self c.put_digest_record-blocks.new.self c.loop-part.part c.loop-part.blocks c.put_digest_record-blocks.result c.args.table.now c.loop-part.table c.put_digest_record-blocks.new.table _ _ _ (g.met.B.Bay.sound c.args.bay.now) (g.met.B.Bay.sound c.loop-part.bay)
-    c.loop-part.invariant c.put_digest_record-blocks.ensures.writer c.put_digest_record-blocks.ensures.spread c.put_digest_record-blocks.ensures.blocks c.put_digest_record-blocks.ensures.held
+    c.loop-part.invariant c.put_digest_record-blocks.ensures.writer c.put_digest_record-blocks.ensures.spread c.put_digest_record-blocks.ensures.blocks c.put_digest_record-blocks.ensures.held c.put_digest_record-blocks.ensures.calls
 
 pub overflow_add-blocks : goal.overflow_add-blocks
 overflow_add-blocks g c =
@@ -69,3 +70,13 @@ returns-clause-room g c = digested_fits c.args.self.now (parts_of c.args.self.no
 
 pub returns-clause-of : goal.returns-clause-of
 returns-clause-of g c = subst (λ (w : Writer). IsOf w c.loop-part.table (g.B.Bay.state c.loop-part.bay)) (sym c.loop-part.invariant.writer) c.loop-part.invariant.of
+
+pub returns-clause-calls : goal.returns-clause-calls
+returns-clause-calls g c =
+    let w = c.args.self.now in
+    let e = c.loop-part-test.false in
+    let all : c.loop-part.part ≡ parts_of w = let a = c.loop-part.auto.part-end in let b = c.requires.parts in omega (arith, a, b, e) in
+    subst (λ n. InRounds w.set n c.args.table.now c.loop-part.table (g.B.Bay.state c.args.bay.now) (g.B.Bay.state c.loop-part.bay)) all c.loop-part.invariant.calls
+
+pub returns-clause-firm : goal.returns-clause-firm
+returns-clause-firm g c = c.loop-part.invariant.firm

@@ -5,6 +5,7 @@ use Rattle.marker_format.specs.Zone.{Array, blocks_of}
 use Rattle.set_writer.specs.Entry.{Entry, entry_bytes, IsEntry}
 use Rattle.set_writer.specs.Members.{Spreads, AllHaveRoom, array_of}
 use Rattle.set_writer.specs.Writer.{Writer, digest_record}
+use Rattle.set_writer.specs.Fit.{live_of}
 use Rattle.set_writer.proofs.DigestLaws.{digest_is_entry}
 use Rattle.set_writer.proofs.PartLaws.{part_entry, part_fragments, part_blocks, part_room, part_held}
 use Rattle.set_writer.proofs.writer.SetWriter.put_digest_record.Goals as goal
@@ -62,7 +63,7 @@ returns-clause-spread g c =
     subst (λ n. Spreads w.set (entry_bytes n (digest_record w c.args.part)) c.args.table.now c.put_payload.new.table (g.B.Bay.state c.args.bay.now) (g.B.Bay.state c.put_payload.new.bay)) k
     (subst (λ s. Spreads s (entry_bytes c.self.inside.code.k (digest_record w c.args.part)) c.args.table.now c.put_payload.new.table (g.B.Bay.state c.args.bay.now) (g.B.Bay.state c.put_payload.new.bay)) set_is
     (subst (λ (e : Entry). Spreads c.digest_marker-marker.result.set (entry_bytes c.self.inside.code.k e) c.args.table.now c.put_payload.new.table (g.B.Bay.state c.args.bay.now) (g.B.Bay.state c.put_payload.new.bay))
-    (part_entry w c.args.part c.self.inside.code.k c.self.inside.geometry.shard c.digest_marker-marker.result c.deref.result.now k shard lines c.digest_marker-marker.ensures.marker) c.put_payload.ensures))
+    (part_entry w c.args.part c.self.inside.code.k c.self.inside.geometry.shard c.digest_marker-marker.result c.deref.result.now k shard lines c.digest_marker-marker.ensures.marker) c.put_payload.ensures.spread))
 
 pub returns-clause-held : goal.returns-clause-held
 returns-clause-held g c =
@@ -70,3 +71,6 @@ returns-clause-held g c =
     let below = c.requires.part in
     let parts = c.requires.parts in
     part_held w c.digest_marker-marker.ensures.can c.args.part (omega (arith, below, parts)) c.args.table.now c.put_payload.new.table (g.B.Bay.state c.args.bay.now) (g.B.Bay.state c.put_payload.new.bay) c.requires.of.array (returns-clause-spread g c) c.requires.held
+
+pub returns-clause-calls : goal.returns-clause-calls
+returns-clause-calls g c = subst (λ s. (g.B.Bay.state c.put_payload.new.bay).moment ≤ (g.B.Bay.state c.args.bay.now).moment + live_of c.args.table.now s) (ap (λ (m : Marker). m.set) c.digest_marker-marker.ensures.marker) c.put_payload.ensures.calls

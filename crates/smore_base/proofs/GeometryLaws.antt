@@ -1,6 +1,5 @@
 -- A geometry within the limits breaks none.
-use Rattle.std.proofs.Common.{◌≡◌, ◌+◌, ◌*◌, ◌%◌, ◌∙◌, Option, None, Some, MatchOption, sym}
-use Rattle.std.proofs.lemmas.Option.{none-some}
+use Rattle.std.proofs.Common.{◌≡◌, ◌+◌, ◌*◌, ◌%◌, ◌∙◌, None}
 use Rattle.std.proofs.lemmas.Bool.{and_from, le-leb, lt-ltb, eq-eqb, cond-true}
 use Rattle.smore_base.specs.declared.geometry.Geometry.{Geometry}
 use Rattle.smore_base.specs.Geometry.{IsWithinLimits, first_fault, fits_k, fits_p, fits_drives, fits_zones, fits_blocks, fits_shard}
@@ -16,8 +15,3 @@ within_first g within =
     (and_from _ _
     (and_from _ _ (and_from _ _ (le-leb 511 g.shard within.shard_from) (le-leb g.shard 65408 within.shard_to)) (eq-eqb (g.shard % 511) 0 within.shard_whole))
     (le-leb (4 * g.shard) (511 * g.blocks) within.shard_share))
-
--- what is said of nothing
-pub at_none : {T : Type 0} (o : Option T) (none : Type 0) (some : T → Type 0) → o ≡ None → MatchOption o none some → none
-at_none None none some is said = said
-at_none (Some value) none some is said = absurd (none-some value (sym is))

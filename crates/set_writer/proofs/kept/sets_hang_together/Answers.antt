@@ -1,0 +1,8 @@
+use Rattle.set_writer.proofs.KeptCarriers.{lists_are_one, places_are_alone}
+use Rattle.set_writer.proofs.kept.sets_hang_together.Goals as goal
+
+pub returns-clause-lists : goal.returns-clause-lists
+returns-clause-lists c = lists_are_one
+
+pub returns-clause-alone : goal.returns-clause-alone
+returns-clause-alone c = places_are_alone
