@@ -11,7 +11,7 @@ use zone_bay::Bay;
 pub(crate) const BLOCK: usize = BLOCK_BYTES as usize;
 
 /// The identity of each array.
-const ARRAY: [u8; 16] = [0, 1, 2, 3, 4, 5, 6, 7, 8, 9, 10, 11, 12, 13, 14, 15];
+pub(crate) const ARRAY: [u8; 16] = [0, 1, 2, 3, 4, 5, 6, 7, 8, 9, 10, 11, 12, 13, 14, 15];
 
 /// A copy of the bay in which all that it holds is firm and no call was made, without these devices.
 pub(crate) fn image_of(

@@ -2,20 +2,34 @@
 //! what becomes of the array. `docs/ROWS.md` has the language.
 #![tactic(auto)]
 
+mod action_words;
+mod allowed;
 mod array;
+mod choice;
 mod fault;
 mod frame;
+mod maps;
+mod numbers;
 mod objects;
 mod parser;
 mod plain;
 mod play;
+mod play_run;
+mod play_sets;
 mod reply;
 mod request;
 mod row;
 mod rows;
 mod run;
 mod served;
+mod set_call;
+mod set_life;
+mod set_log;
+mod set_marker;
+mod set_scan;
+mod set_words;
 mod text;
+mod untold;
 
 use fault::Fault;
 use parser::Parser;

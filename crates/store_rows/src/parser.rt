@@ -1,15 +1,13 @@
 //! From lines to rows.
 
+use crate::action_words::action_of;
 use crate::fault::Fault;
-use crate::objects::Objects;
+use crate::numbers::{number_u8, number_u16, number_u32, number_u64};
 use crate::reply::reply_of;
 use crate::request::request_of;
-use crate::row::{Action, Ended, MapIs, Row, Script, Segment, Stream, Variation, Wanted, ZoneIs};
-use crate::text::bytes_of;
-use bay_memory::Keep;
+use crate::row::{Action, Ended, Row, Script, Segment, Variation, Wanted};
 use smore_base::Geometry;
 use std::alloc::Global;
-use std::collections::BTreeMap;
 
 /// Rows as far as they were read.
 #[derive(Drop)]
@@ -20,38 +18,6 @@ pub(crate) struct Parser {
     row: Option<Row>,
     actions: Vec<Action>,
     script: Option<Script>,
-}
-
-fn number_u8(word: &str) -> Result<u8, Fault> {
-    word.parse::<u8>()
-        .map_err(|_| Fault::BadLine("a number from 0 to 255"))
-}
-
-fn number_u16(word: &str) -> Result<u16, Fault> {
-    word.parse::<u16>()
-        .map_err(|_| Fault::BadLine("a number from 0 to 65535"))
-}
-
-fn number_u32(word: &str) -> Result<u32, Fault> {
-    word.parse::<u32>()
-        .map_err(|_| Fault::BadLine("a number from 0 to 4294967295"))
-}
-
-fn number_u64(word: &str) -> Result<u64, Fault> {
-    word.parse::<u64>().map_err(|_| Fault::BadLine("a number"))
-}
-
-fn size(word: &str) -> Result<usize, Fault> {
-    word.parse::<usize>()
-        .map_err(|_| Fault::BadLine("a number of bytes or blocks"))
-}
-
-/// A size of 1 or more.
-fn some_bytes(word: &str) -> Result<usize, Fault> {
-    match size(word)? {
-        0 => Err(Fault::BadLine("one byte at least")),
-        bytes => Ok(bytes),
-    }
 }
 
 fn geometry_of(words: &[&str]) -> Result<Geometry, Fault> {
@@ -87,150 +53,17 @@ fn ended_of(line: usize, words: &[&str]) -> Result<Ended, Fault> {
     })
 }
 
-fn numbers(alloc: Global, words: &[&str]) -> Result<Vec<u64>, Fault> {
-    let mut numbers = Vec::new(alloc);
-    for word in words {
-        numbers.push(number_u64(word)?)?;
-    }
-    Ok(numbers)
-}
-
-fn devices(alloc: Global, words: &[&str]) -> Result<Vec<u8>, Fault> {
-    let mut devices = Vec::new(alloc);
-    for word in words {
-        devices.push(number_u8(word)?)?;
-    }
-    Ok(devices)
-}
-
-fn objects_of(alloc: Global, words: &[&str]) -> Result<Objects, Fault> {
-    let mut objects = BTreeMap::new(alloc);
-    for pair in words.chunks(2) {
-        let [name, object] = *pair else {
-            return Err(Fault::BadLine("an object behind each name"));
-        };
-        objects.insert(bytes_of(alloc, name)?, bytes_of(alloc, object)?)?;
-    }
-    Ok(objects)
-}
-
-fn map_of(alloc: Global, words: &[&str]) -> Result<MapIs, Fault> {
-    match *words {
-        ["empty"] => Ok(MapIs::These(BTreeMap::new(alloc))),
-        ["before", "or", "after"] => Ok(MapIs::BeforeOrAfter),
-        [_, _, ..] => Ok(MapIs::These(objects_of(alloc, words)?)),
-        _ => Err(Fault::BadLine("map empty, map before or after, or map NAME BYTES ..")),
-    }
-}
-
 fn variation_of(words: &[&str]) -> Result<Option<Variation>, Fault> {
     match *words {
         ["each", "call", "fails"] => Ok(Some(Variation::EachCallFails)),
         ["each", "call", "stops"] => Ok(Some(Variation::EachCallStops)),
+        ["each", "call", "stops", "firm"] => Ok(Some(Variation::EachCallStopsFirm)),
         ["each", "cutting"] => Ok(Some(Variation::EachCutting)),
         ["stop", "at", call, "bytes", bytes] => Ok(Some(Variation::StopsAt {
             call: number_u64(call)?,
             bytes: number_u32(bytes)?,
         })),
         _ => Ok(None),
-    }
-}
-
-fn stream_of(words: &[&str]) -> Result<Option<Stream>, Fault> {
-    let stream = match *words {
-        ["source", "fails", "at", take] => Stream::SourceFails {
-            take: number_u64(take)?,
-        },
-        ["source", "gives", bytes] => Stream::SourceGives {
-            bytes: some_bytes(bytes)?,
-        },
-        ["sink", "fails", "at", put] => Stream::SinkFails {
-            put: number_u64(put)?,
-        },
-        ["sink", "takes", bytes] => Stream::SinkTakes {
-            bytes: some_bytes(bytes)?,
-        },
-        _ => return Ok(None),
-    };
-    Ok(Some(stream))
-}
-
-fn crash_of(words: &[&str]) -> Result<Keep, Fault> {
-    match *words {
-        ["firm"] => Ok(Keep::Firm),
-        ["all"] => Ok(Keep::All),
-        ["short", device, zone, bytes] => Ok(Keep::Short {
-            device: number_u8(device)?,
-            zone: number_u16(zone)?,
-            bytes: number_u32(bytes)?,
-        }),
-        _ => Err(Fault::BadLine("crash firm, crash all or crash short DEVICE ZONE BYTES")),
-    }
-}
-
-fn zone_of(alloc: Global, line: usize, words: &[&str]) -> Result<Action, Fault> {
-    let (device, zone, is) = match *words {
-        [device, zone, "is", blocks, "blocks"] => (device, zone, ZoneIs::Blocks(size(blocks)?)),
-        [device, zone, "from", at, "is", bytes] => {
-            let at = size(at)?;
-            let bytes = bytes_of(alloc, bytes)?;
-            (device, zone, ZoneIs::From { at, bytes })
-        }
-        _ => {
-            return Err(Fault::BadLine(
-                "zone DEVICE ZONE is N blocks, or zone DEVICE ZONE from BYTE is BYTES",
-            ));
-        }
-    };
-    Ok(Action::Zone {
-        line,
-        device: number_u8(device)?,
-        zone: number_u16(zone)?,
-        is,
-    })
-}
-
-fn block_of(alloc: Global, line: usize, words: &[&str]) -> Result<Action, Fault> {
-    let [device, zone, bytes] = *words else {
-        return Err(Fault::BadLine("block DEVICE ZONE BYTES"));
-    };
-    Ok(Action::Block {
-        line,
-        device: number_u8(device)?,
-        zone: number_u16(zone)?,
-        bytes: bytes_of(alloc, bytes)?,
-    })
-}
-
-/// What a line says outside a run.
-fn action_of(alloc: Global, line: usize, words: &[&str]) -> Result<Action, Fault> {
-    if let Some(stream) = stream_of(words)? {
-        return Ok(Action::Stream { stream });
-    }
-    let rest = words.get(1..).unwrap_or(&[]);
-    match words.first() {
-        Some(&"zone") => zone_of(alloc, line, rest),
-        Some(&"block") => block_of(alloc, line, rest),
-        Some(&"map") => Ok(Action::Map {
-            line,
-            is: map_of(alloc, rest)?,
-        }),
-        Some(&"fail") => Ok(Action::Fail {
-            calls: numbers(alloc, rest)?,
-        }),
-        Some(&"without") => Ok(Action::Without {
-            devices: devices(alloc, rest)?,
-        }),
-        Some(&"crash") => Ok(Action::Crash {
-            keep: crash_of(rest)?,
-        }),
-        Some(&"lose") => match *rest {
-            [device] => Ok(Action::Lose {
-                device: number_u8(device)?,
-            }),
-            _ => Err(Fault::BadLine("lose DEVICE")),
-        },
-        _ => Err(Fault::BadLine("a word that may stand outside a run")),
     }
 }
 
@@ -336,7 +169,13 @@ impl Parser {
         if let Some(variation) = variation_of(words)? {
             return self.end_segment(Some(variation));
         }
-        self.actions.push(action_of(self.alloc, line, words)?)?;
+        let action = action_of(self.alloc, line, words)?;
+        if action.chooses().is_some()
+            && self.actions.iter().any(|other| other.chooses().is_some())
+        {
+            return Err(Fault::BadLine("a variation before the next line with each"));
+        }
+        self.actions.push(action)?;
         Ok(())
     }
 
@@ -362,6 +201,7 @@ impl Parser {
             return Err(Fault::BadLine("status, with which a run ends"));
         }
         self.end_row()?;
-        Ok(std::mem::replace(&mut self.rows, Vec::new(self.alloc)))
+        let Parser { rows, .. } = self;
+        Ok(rows)
     }
 }

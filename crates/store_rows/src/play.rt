@@ -2,25 +2,22 @@
 
 use crate::array::{BLOCK, append_block, image_of, zone_of};
 use crate::fault::Fault;
-use crate::frame::split_first;
 use crate::objects::{Objects, told as told_objects};
 use crate::plain::scanned;
-use crate::reply::{is_done, is_refusal, told};
-use crate::request::Request;
-use crate::row::{Action, Ended, MapIs, Script, Segment, Wanted, ZoneIs};
-use crate::run::{Ran, Streams, run};
+use crate::row::{Action, MapIs, Segment, ZoneIs};
+use crate::run::Streams;
 use crate::served::served;
+use crate::set_life::Life;
+use crate::set_log::{Allowed, SetLog};
 use crate::text::word_of;
-use bay_memory::{Keep, MemoryBay};
+use bay_memory::{Image, Keep, MemoryBay};
+use smore_base::Geometry;
 use std::alloc::Global;
-use std::{fmt, mem};
+use std::fmt;
 use zone_bay::Bay;
 
 /// All bytes of an append.
 pub(crate) const ALL: u32 = u32::MAX;
-
-/// The status of a bay that can't be opened.
-const NOT_OPENED: u8 = 6;
 
 /// A line that differs.
 #[derive(Debug, Drop)]
@@ -40,6 +37,8 @@ pub(crate) enum Twist {
     Fails(u64),
     /// The image of this call is kept, when so many bytes of its append are done.
     Stops(u64, u32),
+    /// The image of what was firm at this call is kept.
+    StopsFirm(u64),
     /// The inputs are cut behind so many bytes.
     Cut(usize),
 }
@@ -54,6 +53,7 @@ impl fmt::Display for Twist {
             Twist::Stops(call, bytes) => {
                 write!(f, "stopped in call {call}, {bytes} bytes of an append done")
             }
+            Twist::StopsFirm(call) => write!(f, "stopped in call {call} with what was firm"),
             Twist::Cut(bytes) => write!(f, "the input cut behind byte {bytes}"),
         }
     }
@@ -67,38 +67,62 @@ pub(crate) struct Answered {
     pub(crate) mark: u64,
 }
 
+/// What a segment is played with.
+#[derive(Drop)]
+pub(crate) struct Given {
+    pub(crate) geometry: Geometry,
+    /// The maps one of which is the bay's.
+    pub(crate) maps: Vec<Objects>,
+    /// The sets that the bay may have.
+    pub(crate) allowed: Vec<Allowed>,
+    /// The drives that are chosen.
+    pub(crate) chosen: Vec<u8>,
+}
+
 /// A bay in the course of a segment.
 #[derive(Drop)]
 pub(crate) struct Player<'a> {
-    alloc: Global,
-    twist: Twist,
-    /// The maps one of which is the bay's.
-    maps: &'a [Objects],
+    pub(crate) alloc: Global,
+    pub(crate) twist: Twist,
+    pub(crate) given: &'a Given,
+    pub(crate) geometry: Geometry,
     pub(crate) bay: MemoryBay,
-    streams: Streams,
+    pub(crate) streams: Streams,
     pub(crate) answered: Vec<Answered>,
+    /// The set that is written. A crash leaves nothing of it in memory.
+    pub(crate) life: Option<Life>,
+    /// The sets that were written, step by step.
+    pub(crate) log: SetLog,
+    /// The call at which what is firm is kept, and what was kept.
+    pub(crate) asked: Option<u64>,
+    pub(crate) firm: Option<Image>,
     pub(crate) differences: Vec<Difference>,
 }
 
 impl<'a> Player<'a> {
-    pub(crate) fn new(
-        alloc: Global,
-        bay: MemoryBay,
-        twist: Twist,
-        maps: &'a [Objects],
-    ) -> Player<'a> {
+    pub(crate) fn new(alloc: Global, bay: MemoryBay, twist: Twist, given: &'a Given) -> Player<'a> {
         Player {
             alloc,
             twist,
-            maps,
+            given,
+            geometry: given.geometry,
             bay,
             streams: Streams::new(alloc),
             answered: Vec::new(alloc),
+            life: None,
+            log: SetLog::new(alloc, given.geometry),
+            asked: None,
+            firm: None,
             differences: Vec::new(alloc),
         }
     }
 
-    fn differs(&mut self, line: usize, wanted: String, got: String) -> Result<(), Fault> {
+    pub(crate) fn differs(
+        &mut self,
+        line: usize,
+        wanted: String,
+        got: String,
+    ) -> Result<(), Fault> {
         let under = String::new(self.alloc);
         self.differences.push(Difference {
             line,
@@ -129,6 +153,7 @@ impl<'a> Player<'a> {
         match self.twist {
             Twist::Fails(call) => self.bay.fail_at(&[call])?,
             Twist::Stops(call, bytes) => self.bay.image_at(call, bytes),
+            Twist::StopsFirm(call) => self.asked = Some(call),
             _ => {}
         }
         Ok(())
@@ -147,13 +172,26 @@ impl<'a> Player<'a> {
             Action::Map { line, is } => self.map(*line, is),
             Action::Fail { calls } => Ok(self.bay.fail_at(calls)?),
             Action::Lose { device } => {
-                if *device < self.bay.devices() {
-                    self.bay.lose(*device);
+                self.lose(*device);
+                Ok(())
+            }
+            Action::LoseEach { .. } => {
+                for device in &self.given.chosen {
+                    self.lose(*device);
                 }
                 Ok(())
             }
             Action::Crash { keep } => self.crash(*keep, &[]),
             Action::Without { devices } => self.crash(Keep::All, devices),
+            Action::WithoutEach { .. } => self.crash(Keep::All, &self.given.chosen),
+            Action::Set { line, call, wanted } => self.set(*line, call, wanted),
+            Action::SetIs { line, is } => self.set_is(*line, *is),
+            Action::Scan { line, is } => self.scan(*line, is),
+            Action::Closing {
+                line,
+                records,
+                blocks,
+            } => self.closing(*line, *records, *blocks),
             Action::Block {
                 line,
                 device,
@@ -163,12 +201,20 @@ impl<'a> Player<'a> {
         }
     }
 
+    fn lose(&mut self, device: u8) {
+        if device < self.bay.devices() {
+            self.bay.lose(device);
+        }
+    }
+
     /// The bay becomes an image, whose calls are counted from 0: the calls that were answered so far came before them.
     fn crash(&mut self, keep: Keep, removed: &[u8]) -> Result<(), Fault> {
         self.bay = image_of(self.alloc, &self.bay, keep, removed)?;
         for call in &mut self.answered {
             call.mark = 0;
         }
+        self.life = None;
+        self.log.crashed(keep == Keep::All)?;
         Ok(())
     }
 
@@ -179,98 +225,6 @@ impl<'a> Player<'a> {
         let alloc = self.alloc;
         let wanted = String::from_str(alloc, "a block")?;
         self.differs(line, wanted, String::from_str(alloc, "no room for it")?)
-    }
-
-    fn run(&mut self, script: &Script, ended: Ended) -> Result<(), Fault> {
-        let alloc = self.alloc;
-        let cut = match self.twist {
-            Twist::Cut(bytes) => bytes,
-            _ => 0,
-        };
-        let streams = mem::replace(&mut self.streams, Streams::new(alloc));
-        let bay = mem::replace(&mut self.bay, MemoryBay::new(alloc, 0, 0, 0)?);
-        let (ran, bay) = run(alloc, script, &streams, cut, bay)?;
-        self.bay = bay;
-        self.ended(ended, &ran)?;
-        self.replies(script, &ran)
-    }
-
-    fn ended(&mut self, ended: Ended, ran: &Ran) -> Result<(), Fault> {
-        let outcome = &ran.outcome;
-        let marks = outcome.marks.len() as u64;
-        let is_same = outcome.status == ended.status
-            && outcome.at == ended.at
-            && outcome.calls == ended.calls
-            && marks == ended.marks;
-        let is_refused = matches!(self.twist, Twist::Fails(_)) && outcome.status == NOT_OPENED;
-        if is_same || is_refused {
-            return Ok(());
-        }
-        let alloc = self.alloc;
-        let Ended {
-            line,
-            status,
-            at,
-            calls,
-            marks: wanted,
-        } = ended;
-        let wanted = format!(in alloc; "status {status} at {at} calls {calls} marks {wanted}")?;
-        let status = outcome.status;
-        let at = outcome.at;
-        let calls = outcome.calls;
-        let got = format!(in alloc; "status {status} at {at} calls {calls} marks {marks}")?;
-        self.differs(line, wanted, got)
-    }
-
-    /// Compares each reply, and notes which calls were done.
-    fn replies(&mut self, script: &Script, ran: &Ran) -> Result<(), Fault> {
-        let mut rest: &[u8] = &ran.output;
-        for wanted in &script.wanted {
-            let (got, behind) = split_first(rest);
-            self.reply(wanted, got)?;
-            rest = behind;
-        }
-        if !rest.is_empty() {
-            let got = told(self.alloc, rest)?;
-            let line = script.wanted.last().map_or(0, |wanted| wanted.line);
-            self.differs(line, String::from_str(self.alloc, "no more replies")?, got)?;
-        }
-        self.note(script, ran)
-    }
-
-    fn reply(&mut self, wanted: &Wanted, got: &[u8]) -> Result<(), Fault> {
-        let Some(frame) = &wanted.frame else {
-            return Ok(());
-        };
-        if got == frame.as_slice() {
-            return Ok(());
-        }
-        let may_be_refused = matches!(self.twist, Twist::Fails(_));
-        if may_be_refused && (got.is_empty() || is_refusal(got)) {
-            return Ok(());
-        }
-        let want = told(self.alloc, frame)?;
-        let got = told(self.alloc, got)?;
-        self.differs(wanted.line, want, got)
-    }
-
-    /// Notes for each call whether it was done.
-    fn note(&mut self, script: &Script, ran: &Ran) -> Result<(), Fault> {
-        let mut rest: &[u8] = &ran.output;
-        let mut marks = ran.outcome.marks.iter();
-        for request in &script.requests {
-            if matches!(request, Request::Stop) {
-                continue;
-            }
-            let (reply, behind) = split_first(rest);
-            let mark = marks.next().copied().unwrap_or(u64::MAX);
-            self.answered.push(Answered {
-                is_done: is_done(reply),
-                mark,
-            })?;
-            rest = behind;
-        }
-        Ok(())
     }
 
     fn zone(&mut self, line: usize, device: u8, zone: u16, is: &ZoneIs) -> Result<(), Fault> {
@@ -302,14 +256,14 @@ impl<'a> Player<'a> {
     /// Compares the map that the array says with what a store opened over it serves, and both with what is wanted. A call
     /// whose image is kept changes nothing else, so its map was compared without it.
     fn map(&mut self, line: usize, is: &MapIs) -> Result<(), Fault> {
-        if matches!(self.twist, Twist::Stops(..)) {
+        if matches!(self.twist, Twist::Stops(..) | Twist::StopsFirm(_)) {
             return Ok(());
         }
         let alloc = self.alloc;
         let said = scanned(alloc, &self.bay)?;
         let is_wanted = match is {
             MapIs::These(objects) => said == *objects,
-            MapIs::BeforeOrAfter => self.maps.iter().any(|map| *map == said),
+            MapIs::BeforeOrAfter => self.given.maps.iter().any(|map| *map == said),
         };
         let served = served(alloc, &self.bay)?;
         let is_served = served.as_ref() == Some(&said);
@@ -318,7 +272,7 @@ impl<'a> Player<'a> {
         }
         let wanted = match is {
             MapIs::These(objects) => told_objects(alloc, objects)?,
-            MapIs::BeforeOrAfter => told_maps(alloc, self.maps)?,
+            MapIs::BeforeOrAfter => told_maps(alloc, &self.given.maps)?,
         };
         let mut got = told_objects(alloc, &said)?;
         if !is_served {

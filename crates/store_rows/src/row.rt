@@ -2,6 +2,7 @@
 
 use crate::objects::Objects;
 use crate::request::Request;
+use crate::set_call::{SetAnswer, SetCall};
 use bay_memory::Keep;
 use smore_base::Geometry;
 
@@ -45,6 +46,35 @@ pub(crate) enum ZoneIs {
 pub(crate) enum MapIs {
     These(Objects),
     /// The map before the call in which the row was varied, or after it.
+    BeforeOrAfter,
+}
+
+/// How the set that is written is to stand.
+#[derive(Clone, Copy, Debug, PartialEq, Eq)]
+pub(crate) struct SetIs {
+    pub(crate) set: u64,
+    pub(crate) blocks: u32,
+    pub(crate) records: u16,
+    pub(crate) live: u8,
+    pub(crate) is_closed: bool,
+}
+
+/// What a scan says of a set.
+#[derive(Clone, Copy, Debug, PartialEq, Eq)]
+pub(crate) struct SetSeen {
+    pub(crate) set: u64,
+    pub(crate) carriers: usize,
+    /// Its valid records.
+    pub(crate) records: usize,
+    pub(crate) is_settled: bool,
+}
+
+/// What a scan is to say.
+#[derive(Debug, Drop)]
+pub(crate) enum ScanIs {
+    /// Of these sets, and of no others.
+    These(Vec<SetSeen>),
+    /// What the steps allow that were done when the row was varied, and the one that was being done.
     BeforeOrAfter,
 }
 
@@ -100,12 +130,53 @@ pub(crate) enum Action {
         zone: u16,
         bytes: Vec<u8>,
     },
+    /// A call on a set, and the answer that is wanted.
+    Set {
+        line: usize,
+        call: SetCall,
+        wanted: SetAnswer,
+    },
+    SetIs {
+        line: usize,
+        is: SetIs,
+    },
+    /// What the plain scan says of the sets.
+    Scan {
+        line: usize,
+        is: ScanIs,
+    },
+    /// How many blocks the closing of a set of so many records takes.
+    Closing {
+        line: usize,
+        records: u16,
+        blocks: u32,
+    },
+    /// The drives that were chosen are lost: each so many drives are chosen once.
+    LoseEach {
+        drives: u8,
+    },
+    /// The same, and the bay becomes an image without them.
+    WithoutEach {
+        drives: u8,
+    },
 }
 
 impl Action {
     /// Whether the bay becomes an image of what it held.
     pub(crate) fn is_image(&self) -> bool {
-        matches!(self, Action::Crash { .. } | Action::Without { .. })
+        matches!(
+            self,
+            Action::Crash { .. } | Action::Without { .. } | Action::WithoutEach { .. }
+        )
+    }
+
+    /// How many drives are chosen for it; `None` where none are.
+    pub(crate) fn chooses(&self) -> Option<u8> {
+        match self {
+            Action::LoseEach { drives } => Some(*drives),
+            Action::WithoutEach { drives } => Some(*drives),
+            _ => None,
+        }
     }
 }
 
@@ -116,6 +187,8 @@ pub(crate) enum Variation {
     EachCallFails,
     /// The bay becomes the image of each of its calls.
     EachCallStops,
+    /// The bay becomes the image of what was firm at each of its calls.
+    EachCallStopsFirm,
     /// The bay becomes the image of this call when so many bytes of its append are done.
     StopsAt { call: u64, bytes: u32 },
     /// The inputs are cut in two behind each byte.
@@ -127,6 +200,26 @@ pub(crate) enum Variation {
 pub(crate) struct Segment {
     pub(crate) actions: Vec<Action>,
     pub(crate) variation: Option<Variation>,
+}
+
+impl Segment {
+    /// Whether a line asks for the map before a variation or after it.
+    pub(crate) fn asks_map(&self) -> bool {
+        self.actions.iter().any(|action| {
+            matches!(
+                action,
+                Action::Map {
+                    is: MapIs::BeforeOrAfter,
+                    ..
+                }
+            )
+        })
+    }
+
+    /// How many drives are chosen for it.
+    pub(crate) fn chosen(&self) -> u8 {
+        self.actions.iter().find_map(Action::chooses).unwrap_or(0)
+    }
 }
 
 /// A scenario over a fresh array of this geometry.

@@ -1,16 +1,17 @@
 //! A row: each segment is played as it stands, and again for each variation of it, with what stands below.
 
 use crate::array::{bytes_of, formatted, image_of};
+use crate::choice::choices;
 use crate::fault::Fault;
-use crate::objects::{Objects, apply, copied};
-use crate::play::{ALL, Answered, Difference, Player, Twist};
-use crate::request::Request;
+use crate::maps::maps_behind;
+use crate::objects::Objects;
+use crate::play::{ALL, Difference, Given, Player, Twist};
 use crate::row::{Action, Row, Segment, Variation};
-use crate::served::served;
+use crate::set_log::{Allowed, copied_all};
 use bay_memory::{Keep, MemoryBay};
 use std::alloc::Global;
 use std::collections::BTreeMap;
-use std::mem;
+use std::{fmt, mem};
 use zone_bay::Bay;
 
 /// A row is given up behind so many differences.
@@ -21,48 +22,115 @@ pub(crate) fn differences_of(alloc: Global, row: &Row) -> Result<Vec<Difference>
     let start = formatted(alloc, &row.geometry)?;
     let mut maps = Vec::new(alloc);
     maps.push(BTreeMap::new(alloc))?;
+    let given = Given {
+        geometry: row.geometry,
+        maps,
+        allowed: Vec::new(alloc),
+        chosen: Vec::new(alloc),
+    };
     let mut found = Vec::new(alloc);
-    play_all(alloc, &start, &row.segments, &maps, &mut found)?;
+    play_all(alloc, &start, &row.segments, given, &mut found)?;
     Ok(found)
 }
 
-/// Plays the segments from this bay on, whose map is one of these.
+/// Plays the segments from this bay on, with each choice of drives.
 fn play_all(
     alloc: Global,
     start: &MemoryBay,
     segments: &[Segment],
-    maps: &[Objects],
+    mut given: Given,
     found: &mut Vec<Difference>,
 ) -> Result<(), Fault> {
     let Some((segment, rest)) = segments.split_first() else {
         return Ok(());
     };
-    let plain = played(alloc, start, segment, Twist::Plain, maps, found)?;
-    for twist in twists_of(alloc, start, segment, &plain)? {
+    for chosen in choices(alloc, given.geometry.drives, segment.chosen())? {
         if found.len() >= MANY {
             break;
         }
+        given.chosen = chosen;
         let first = found.len();
-        let mut varied = played(alloc, start, segment, twist, maps, found)?;
-        let maps = maps_behind(alloc, start, segment, twist, &plain, &varied)?;
-        let next = next_bay(alloc, twist, &mut varied)?;
-        play_all(alloc, &next, rest, &maps, found)?;
-        note_twist(alloc, twist, first, found)?;
+        let plain = played(alloc, start, segment, &given, Twist::Plain, found)?;
+        for twist in twists_of(alloc, start, segment, &given, &plain)? {
+            if found.len() >= MANY {
+                break;
+            }
+            let first = found.len();
+            let mut varied = played(alloc, start, segment, &given, twist, found)?;
+            let next_given = Given {
+                geometry: given.geometry,
+                maps: next_maps(alloc, start, segment, rest, &plain, &varied)?,
+                allowed: next_allowed(alloc, &varied)?,
+                chosen: Vec::new(alloc),
+            };
+            if let Some(next) = next_bay(alloc, twist, &mut varied)? {
+                play_all(alloc, &next, rest, next_given, found)?;
+            }
+            note(alloc, twist, first, found)?;
+        }
+        note_choice(alloc, &given.chosen, first, found)?;
     }
     Ok(())
 }
 
-/// Says of all differences but the first that they were found with this twist.
-fn note_twist(
+/// The maps that the bay may have behind the variation, where a line below it asks for them.
+fn next_maps(
     alloc: Global,
-    twist: Twist,
+    start: &MemoryBay,
+    segment: &Segment,
+    rest: &[Segment],
+    plain: &Player<'_>,
+    varied: &Player<'_>,
+) -> Result<Vec<Objects>, Fault> {
+    if rest.iter().any(Segment::asks_map) {
+        return maps_behind(alloc, start, segment, varied.twist, plain, varied);
+    }
+    Ok(Vec::new(alloc))
+}
+
+/// The sets that the bay may have behind the twist.
+fn next_allowed(alloc: Global, varied: &Player<'_>) -> Result<Vec<Allowed>, Fault> {
+    let mut allowed = copied_all(alloc, &varied.given.allowed)?;
+    let log = &varied.log;
+    let more = match varied.twist {
+        Twist::Stops(call, _) => log.allowed(log.steps_by(call), false)?,
+        Twist::StopsFirm(call) => log.allowed(log.steps_by(call), true)?,
+        _ => log.now()?,
+    };
+    for set in more {
+        allowed.push(set)?;
+    }
+    Ok(allowed)
+}
+
+/// Says of these differences which drives were chosen, if any were.
+fn note_choice(
+    alloc: Global,
+    chosen: &[u8],
+    first: usize,
+    found: &mut Vec<Difference>,
+) -> Result<(), Fault> {
+    if chosen.is_empty() {
+        return Ok(());
+    }
+    let mut text = String::from_str(alloc, "drives")?;
+    for drive in chosen {
+        write!(text, " {drive}")?;
+    }
+    note(alloc, text.as_str(), first, found)
+}
+
+/// Says of the differences from this one on with what they were found.
+fn note<T: fmt::Display + Copy>(
+    alloc: Global,
+    with: T,
     first: usize,
     found: &mut Vec<Difference>,
 ) -> Result<(), Fault> {
     for difference in found.iter_mut().skip(first) {
         let under = difference.under.as_str();
         let separator = if under.is_empty() { "" } else { ", then " };
-        difference.under = format!(in alloc; "{twist}{separator}{under}")?;
+        difference.under = format!(in alloc; "{with}{separator}{under}")?;
     }
     Ok(())
 }
@@ -72,12 +140,12 @@ fn played<'a>(
     alloc: Global,
     start: &MemoryBay,
     segment: &Segment,
+    given: &'a Given,
     twist: Twist,
-    maps: &'a [Objects],
     found: &mut Vec<Difference>,
 ) -> Result<Player<'a>, Fault> {
     let copy = image_of(alloc, start, Keep::All, &[])?;
-    let mut player = Player::new(alloc, copy, twist, maps);
+    let mut player = Player::new(alloc, copy, twist, given);
     player.play(segment)?;
     for difference in mem::replace(&mut player.differences, Vec::new(alloc)) {
         found.push(difference)?;
@@ -85,14 +153,24 @@ fn played<'a>(
     Ok(player)
 }
 
-/// The bay as the twist leaves it.
-fn next_bay(alloc: Global, twist: Twist, varied: &mut Player<'_>) -> Result<MemoryBay, Fault> {
-    if let Twist::Stops(..) = twist {
-        if let Some(image) = varied.bay.taken() {
-            return Ok(MemoryBay::from_image(alloc, image));
+/// The bay as the twist leaves it; `None` where what was firm was asked for at a call that no set made.
+fn next_bay(
+    alloc: Global,
+    twist: Twist,
+    varied: &mut Player<'_>,
+) -> Result<Option<MemoryBay>, Fault> {
+    let image = match twist {
+        Twist::Stops(..) => varied.bay.taken(),
+        Twist::StopsFirm(_) => {
+            let image = varied.firm.take();
+            return Ok(image.map(|image| MemoryBay::from_image(alloc, image)));
         }
+        _ => None,
+    };
+    match image {
+        Some(image) => Ok(Some(MemoryBay::from_image(alloc, image))),
+        None => Ok(Some(image_of(alloc, &varied.bay, Keep::All, &[])?)),
     }
-    image_of(alloc, &varied.bay, Keep::All, &[])
 }
 
 /// The ways in which a variation plays the segment again.
@@ -100,6 +178,7 @@ fn twists_of(
     alloc: Global,
     start: &MemoryBay,
     segment: &Segment,
+    given: &Given,
     plain: &Player<'_>,
 ) -> Result<Vec<Twist>, Fault> {
     let mut twists = Vec::new(alloc);
@@ -113,7 +192,12 @@ fn twists_of(
         }
         Some(Variation::EachCallStops) => {
             for call in 0..plain.bay.moment() {
-                add_stops(alloc, start, segment, call, &mut twists)?;
+                add_stops(alloc, start, segment, given, call, &mut twists)?;
+            }
+        }
+        Some(Variation::EachCallStopsFirm) => {
+            for call in 0..plain.bay.moment() {
+                twists.push(Twist::StopsFirm(call))?;
             }
         }
         Some(Variation::EachCutting) => {
@@ -130,11 +214,15 @@ fn bytes_at(
     alloc: Global,
     start: &MemoryBay,
     segment: &Segment,
+    given: &Given,
     twist: Twist,
 ) -> Result<u64, Fault> {
     let mut unheard = Vec::new(alloc);
-    let mut varied = played(alloc, start, segment, twist, &[], &mut unheard)?;
-    Ok(bytes_of(&next_bay(alloc, twist, &mut varied)?))
+    let mut varied = played(alloc, start, segment, given, twist, &mut unheard)?;
+    match next_bay(alloc, twist, &mut varied)? {
+        Some(bay) => Ok(bytes_of(&bay)),
+        None => Ok(0),
+    }
 }
 
 /// Adds a stop in this call; where it is an append, with no, half and all of its bytes.
@@ -142,12 +230,13 @@ fn add_stops(
     alloc: Global,
     start: &MemoryBay,
     segment: &Segment,
+    given: &Given,
     call: u64,
     twists: &mut Vec<Twist>,
 ) -> Result<(), Fault> {
     twists.push(Twist::Stops(call, 0))?;
-    let none = bytes_at(alloc, start, segment, Twist::Stops(call, 0))?;
-    let all = bytes_at(alloc, start, segment, Twist::Stops(call, ALL))?;
+    let none = bytes_at(alloc, start, segment, given, Twist::Stops(call, 0))?;
+    let all = bytes_at(alloc, start, segment, given, Twist::Stops(call, ALL))?;
     let appended = all.saturating_sub(none);
     if appended > 0 {
         let half = u32::try_from(appended / 2).unwrap_or(ALL);
@@ -165,95 +254,4 @@ fn longest_input(segment: &Segment) -> usize {
         }
     }
     most
-}
-
-/// The maps one of which the bay may have behind the twist.
-fn maps_behind(
-    alloc: Global,
-    start: &MemoryBay,
-    segment: &Segment,
-    twist: Twist,
-    plain: &Player<'_>,
-    varied: &Player<'_>,
-) -> Result<Vec<Objects>, Fault> {
-    let before = match served(alloc, start)? {
-        Some(objects) => objects,
-        None => BTreeMap::new(alloc),
-    };
-    match twist {
-        Twist::Stops(call, _) => around(alloc, &before, segment, &plain.answered, call),
-        _ => with_one_more(alloc, &before, segment, &plain.answered, &varied.answered),
-    }
-}
-
-/// The map behind the calls that were answered by this moment, and behind one more.
-fn around(
-    alloc: Global,
-    before: &Objects,
-    segment: &Segment,
-    answered: &[Answered],
-    moment: u64,
-) -> Result<Vec<Objects>, Fault> {
-    let count = answered.iter().filter(|call| call.mark <= moment).count();
-    let mut maps = Vec::new(alloc);
-    maps.push(behind(alloc, before, segment, answered, count)?)?;
-    maps.push(behind(alloc, before, segment, answered, count.saturating_add(1))?)?;
-    Ok(maps)
-}
-
-/// The calls of a segment, without the requests that end a run.
-fn calls_of<'a>(alloc: Global, segment: &'a Segment) -> Result<Vec<&'a Request>, Fault> {
-    let mut calls = Vec::new(alloc);
-    for action in &segment.actions {
-        if let Action::Run { script, .. } = action {
-            for request in &script.requests {
-                if !matches!(request, Request::Stop) {
-                    calls.push(request)?;
-                }
-            }
-        }
-    }
-    Ok(calls)
-}
-
-/// The map behind so many calls.
-fn behind(
-    alloc: Global,
-    before: &Objects,
-    segment: &Segment,
-    answered: &[Answered],
-    count: usize,
-) -> Result<Objects, Fault> {
-    let mut objects = copied(alloc, before)?;
-    let calls = calls_of(alloc, segment)?;
-    for (request, call) in calls.iter().zip(answered).take(count) {
-        if call.is_done {
-            apply(alloc, &mut objects, request)?;
-        }
-    }
-    Ok(objects)
-}
-
-/// The map behind all calls that were done, and that with the first one that wasn't, though it is where no call fails.
-fn with_one_more(
-    alloc: Global,
-    before: &Objects,
-    segment: &Segment,
-    plain: &[Answered],
-    answered: &[Answered],
-) -> Result<Vec<Objects>, Fault> {
-    let done = behind(alloc, before, segment, answered, usize::MAX)?;
-    let mut more = copied(alloc, &done)?;
-    let calls = calls_of(alloc, segment)?;
-    let failed = plain
-        .iter()
-        .zip(answered)
-        .position(|(was, is)| was.is_done && !is.is_done);
-    if let Some(request) = failed.and_then(|at| calls.get(at)) {
-        apply(alloc, &mut more, request)?;
-    }
-    let mut maps = Vec::new(alloc);
-    maps.push(done)?;
-    maps.push(more)?;
-    Ok(maps)
 }
