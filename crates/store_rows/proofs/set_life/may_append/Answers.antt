@@ -1,4 +1,4 @@
-use Rattle.std.proofs.Common.{ℕ, ◌+◌, ◌*◌, ◌≤◌, ap, sym, subst, ◌∙◌}
+use Rattle.std.proofs.Common.{ℕ, ◌+◌, ◌*◌, ◌≤◌, ap, subst, ◌∙◌}
 use Rattle.smore_base.specs.declared.geometry.Geometry.{Geometry}
 use Rattle.store_rows.proofs.AppendLaws.{same_bytes, appendable}
 use Rattle.store_rows.proofs.set_life.may_append.Goals as goal
