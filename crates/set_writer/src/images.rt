@@ -83,7 +83,7 @@ pub fn firm_records_stay<B: Bay>()
     ensures closed { FirmIsOfClosed }
 {}
 
-/// A call on one set keeps what the zones of the others hold, and what is alone. So does a crash.
+/// A call on one set keeps what the zones of the others hold, and what is alone. A crash keeps what is alone.
 pub fn other_sets_are_kept<B: Bay>()
     ensures flush { (old new : B) → FlushKeepsSets (B.state old) (B.state new) }
     ensures append { (old new : B) → AppendKeepsSets (B.state old) (B.state new) }

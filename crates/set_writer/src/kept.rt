@@ -5,8 +5,8 @@ ghost use Rattle.set_writer.specs.KeptLaws.{FlushKeepsRest, AppendKeepsRest, Ope
 
 use zone_bay::Bay;
 
-/// A call keeps what the zones hold that carry none of its sets, labels and the flash among them, and so does a crash in
-/// it.
+/// A call keeps what the zones hold that carry none of its sets, labels and the flash among them. A crash in it leaves a
+/// first part of that, with what was firm.
 pub fn other_zones_are_kept<B: Bay>()
     ensures flush { (old new : B) → FlushKeepsRest (B.state old) (B.state new) }
     ensures append { (old new : B) → AppendKeepsRest (B.state old) (B.state new) }
@@ -25,7 +25,7 @@ pub fn own_zones_are_shown<B: Bay>()
     ensures next { (old new : B) → NextShows (B.state old) (B.state new) }
 {}
 
-/// It leaves of each other set what was held.
+/// It leaves of each other set that is alone a first part of what was held, with what was firm.
 pub fn other_sets_are_shown<B: Bay>()
     ensures flush { (old new : B) → FlushShowsOthers (B.state old) (B.state new) }
     ensures append { (old new : B) → AppendShowsOthers (B.state old) (B.state new) }
