@@ -272,14 +272,15 @@ pub record IsTable (g : Geometry) (lost : List Bool) (zones : List (List ZoneUse
   pub places : (d z set index : ℕ) → use_at zones d z ≡ Carrier set index → IsSomeAnd (row_of set rows) (λ row. HasPlace row index d z)
   pub full : (set : ℕ) → IfSome (row_of set rows) (λ row. length row.places ≡ MAX_FRAGMENTS)
 
--- What callers may know of any table: it has its geometry's devices, drives and zones; only set zones carry sets; and a set is in the
--- table exactly where a zone carries it.
+-- What callers may know of any table: it has its geometry's devices, drives and zones; only set zones carry sets, no two the same
+-- index of a set; and a set is in the table exactly where a zone carries it.
 pub record HangsTogether (t : Table) : Type 0 where
   pub within : IsWithinLimits t.geometry
   pub devices : length t.lost ≡ t.geometry.drives + 1
   pub drives : length t.zones ≡ t.geometry.drives
   pub zones : (d : ℕ) → d < length t.zones → length (zones_of t.zones d) ≡ t.geometry.zones
   pub set_zones : (d z set index : ℕ) → use_at t.zones d z ≡ Carrier set index → IsSetZone t.geometry d z
+  pub once : (d z e y set index : ℕ) → use_at t.zones d z ≡ Carrier set index → use_at t.zones e y ≡ Carrier set index → (d ≡ e) × (z ≡ y)
   pub listed : (d z set index : ℕ) → use_at t.zones d z ≡ Carrier set index → IsSome (marks_of set t.sets)
   pub carried : (set : ℕ) → IsSome (marks_of set t.sets) → IsCarried t.zones set
 

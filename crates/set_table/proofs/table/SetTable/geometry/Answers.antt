@@ -1,6 +1,7 @@
 use Rattle.std.proofs.Common.{◌≡◌, ◌≤◌, ℕ, List, Option, Some, None, IsSome, IsSomeAnd, inl, inr, refl, sym, ap, subst, ◌∙◌, arith}
 use Rattle.std.proofs.lemmas.Bool.{cases_lt}
 use Rattle.set_table.specs.declared.rows.Row.{Row}
+use Rattle.set_table.specs.declared.rows.Place.{Place}
 use Rattle.set_table.specs.declared.zone_use.ZoneUse.{ZoneUse}
 use Rattle.set_table.specs.declared.zone_use.ZoneUse.TheVariants.{Taken, Carrier}
 use Rattle.set_table.specs.Rows.{row_of}
@@ -23,6 +24,11 @@ has_row : (o : Option Row) (P : Row → Type 0) → IsSomeAnd o P → IsSome o
 has_row None P p = absurd p
 has_row (Some row) P p = refl
 
+-- two zones that are the place of one index in a row are one
+one_place : (o : Option Row) (index d z e y : ℕ) → IsSomeAnd o (λ row. HasPlace row index d z) → IsSomeAnd o (λ row. HasPlace row index e y) → (d ≡ e) × (z ≡ y)
+one_place None index d z e y p q = absurd p
+one_place (Some row) index d z e y p q = let same = sym p ∙ q in (ap (λ (at : Place). at.device) same, ap (λ (at : Place). at.zone) same)
+
 pub returns-clause-together : goal.returns-clause-together
 returns-clause-together c =
     let inside = c.self.inside in
@@ -43,6 +49,7 @@ returns-clause-together c =
             from = from_two zones d z set index drive.first drive.second carries;
             to = omega (arith, at.1, drive.length_is);
           };
+      once = λ d z e y set index one other. one_place (row_of set rows) index d z e y (is.places d z set index one) (is.places e y set index other);
       listed = λ d z set index carries. some_marks rows set (has_row (row_of set rows) (λ row. HasPlace row index d z) (is.places d z set index carries));
       carried = λ set some. is.carried set (some_row rows set some);
     }
