@@ -30,7 +30,7 @@ closed_view w v blocks parts is blocks_is parts_is =
 -- ---- the calls
 
 -- a device that was lost failed by then
-failed_by : (goal : Contents → Contents) (t t' : Table) (old mid new : BayState) → IsSound mid → ((d m : ℕ) → mid.failed d m → new.failed d m) → Leads goal t t' old mid → IfSome old.contents (λ held. (d : ℕ) → Loses t t' d → FailedBy old new mid.moment d)
+pub failed_by : (goal : Contents → Contents) (t t' : Table) (old mid new : BayState) → IsSound mid → ((d m : ℕ) → mid.failed d m → new.failed d m) → Leads goal t t' old mid → IfSome old.contents (λ held. (d : ℕ) → Loses t t' d → FailedBy old new mid.moment d)
 failed_by goal t t' old mid new sound keeps leads = told old.contents leads.failed
   where
     told : (o : Option Contents) → ((d : ℕ) → Loses t t' d → IfSome o (λ from. FailsOnTheWay d from (goal from) old mid)) → IfSome o (λ held. (d : ℕ) → Loses t t' d → FailedBy old new mid.moment d)

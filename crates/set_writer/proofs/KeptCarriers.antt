@@ -42,7 +42,7 @@ lists_are_one s t firm view array are has = (
 
 -- ---- one zone an index
 
-all_contains : {A : Type 0} (P : A → Type 0) (xs : List A) (x : A) → AllByRecursion P xs → Contains xs x → P x
+pub all_contains : {A : Type 0} (P : A → Type 0) (xs : List A) (x : A) → AllByRecursion P xs → Contains xs x → P x
 all_contains P [] x all has = let below = has.1 in absurd (omega (arith, below))
 all_contains P (y ∷ xs) x all (zero, below, is) = subst P is all.0
 all_contains P (y ∷ xs) x all (suc i, below, is) = all_contains P xs x all.1 (i, omega (arith, below), is)

@@ -68,7 +68,7 @@ module _ (array : Array) (set' index : ℕ) (es : List Entry) (below : index < a
   first : is_rebuilt (markers_at index es) ≡ false
   first = ap (λ (l : List Entry). is_rebuilt (markers_at index l)) (sym (append-nil es)) ∙ set_not_rebuilt array set' index es [] some are
 
-  no_foot : has_foot array (take n (entries_bytes array.geometry.k es index)) ≡ true → ⊥
+  pub no_foot : has_foot array (take n (entries_bytes array.geometry.k es index)) ≡ true → ⊥
   no_foot foot =
       let far = foot_is_last n array (entries_bytes array.geometry.k es index) (markers_at index es) begun_is first foot in
       let long = length-entries array set' 0 array.geometry.k index es refl below are in

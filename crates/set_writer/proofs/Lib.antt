@@ -3,6 +3,7 @@ pub mod AgreedRecords
 pub mod BeganLaws
 pub mod ByteLaws
 pub mod CarriedLaws
+pub mod CarriedOver
 pub mod CloseLaws
 pub mod ClosedZones
 pub mod ClosingImages
@@ -15,6 +16,7 @@ pub mod EachMember
 pub mod EntryLaws
 pub mod FirstLaws
 pub mod FitLaws
+pub mod FormChanges
 pub mod FormedLaws
 pub mod FoundCarriers
 pub mod FragmentLaws
@@ -27,6 +29,7 @@ pub mod KeptShown
 pub mod KeptZones
 pub mod LineBytes
 pub mod MemberCalls
+pub mod NewSets
 pub mod NextFeet
 pub mod NextImages
 pub mod NextKeptSets
@@ -38,12 +41,20 @@ pub mod OpeningImages
 pub mod OtherSets
 pub mod PartLaws
 pub mod ReadBack
+pub mod ReadLists
 pub mod RecordsRead
 pub mod RoomierLaws
 pub mod RoundLaws
 pub mod SetImageRead
 pub mod SetImages
 pub mod SetsRead
+pub mod ShownFirst
+pub mod StandCalls
+pub mod StandNext
+pub mod StandOpenings
+pub mod StandReads
+pub mod StandRecords
+pub mod StandSets
 pub mod TableChanges
 pub mod TableRoom
 pub mod WriterImages

@@ -61,7 +61,7 @@ module _ (set' least : ℕ) (w w' : Writer) (es : List Entry) (t t' : Table) (he
       | inl was ↦ absurd (no_foot held old.firm held_is (now_is old.contents held old.firm image is.told (left_now old image is.sound (i0, since, was))))
       | inr later ↦ elim later.1 [
         | inl ending ↦ by_ending i0 (subst (λ b. LeftEnding b w t old is.follows.firm_records is.follows.firm_digest is.follows.records_moment is.follows.digest_moment i0 image) closes ending)
-        | inr opening_ ↦ (opening_.0, inr (now_is (option_map (λ h. with_opening set' is.follows.formed (with_end w t h)) old.contents) (with_opening set' is.follows.formed (with_end w t held)) is.follows.firm_then image (ap (option_map (λ h. with_opening set' is.follows.formed (with_end w t h))) is.told) opening_.1))
+        | inr opening_ ↦ (let before = is.follows.digest_before in let since = opening_.0 in omega (arith, before, since), inr (now_is (option_map (λ h. with_opening set' is.follows.formed (with_end w t h)) old.contents) (with_opening set' is.follows.formed (with_end w t held)) is.follows.firm_then image (ap (option_map (λ h. with_opening set' is.follows.formed (with_end w t h))) is.told) opening_.1))
       ]
     ]
 

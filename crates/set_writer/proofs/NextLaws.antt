@@ -23,6 +23,7 @@ use Rattle.set_writer.specs.Fit.{has_enough}
 use Rattle.set_writer.specs.Rounds.{Point, point_at, Rounds, InRounds}
 use Rattle.set_writer.specs.Calls.{closing_rounds, ending_rounds, FitsIn, FitsSome, Began, EndsBy, Ends, Follows, closes_first, closing_bytes, with_closing, with_opening, with_end, ended, HasAll, LeftEnding, FailedBy, StillFits, OldHolds, with_digest}
 use Rattle.set_writer.proofs.CarriedLaws.{enough_is_listed}
+use Rattle.set_writer.proofs.CloseLaws.{failed_by}
 use Rattle.set_writer.proofs.RoundLaws.{no_rounds, rounds_told}
 use Rattle.zone_bay.proofs.TowardThen.{Further}
 use Rattle.set_writer.proofs.MemberCalls.{more_live, more_lost, live_or_lost, leads_then, leads_behind}
@@ -433,12 +434,14 @@ module _ (w w' : Writer) (t tc f t1 : Table) (set' : ℕ) (members : List Member
     firm_digest = digest_lengths (closes_first w t) ends;
     digest_firm = digest_all (closes_first w t) ends;
     digest_still = digest_still (closes_first w t) ends;
-    order = goes_join s0 sc s1 (λ i image. LeftEnding (closes_first w t) w t s0 (record_lengths (closes_first w t) ends) (digest_lengths (closes_first w t) ends) (records_moment (closes_first w t) ends) (digest_moment (closes_first w t) ends) i image ⊎ ((digest_moment (closes_first w t) ends ≤ moment_of i) × ImageOf (option_map (λ held. with_opening set' f (with_end w t held)) s0.contents) sc.firm image)) (λ d m. ⊤)
-        (goes_weaker s0 sc _ _ _ _ (λ i image since is. inl is) (λ d m since q. tt) (ending_order (closes_first w t) ends))
-        (goes_weaker sc s1 _ _ _ _ (λ i image since is. inr (let before = digest_before (closes_first w t) ends in omega (arith, before, since), leads_behind (with_end w t) (with_opening set' f) (λ held. with_opening set' f (with_end w t held)) t tc t1 s0 sc s1 sound0 soundc first_leads second_leads further image is)) (λ d m since q. tt) second_leads.toward.goes_on);
-    others = λ d z old_none new_none. others d z new_none ∙ ends_others (closes_first w t) ends d z old_none;
     ended_at = point_at tc sc;
     ended_table = refl;
+    digest_before = digest_before (closes_first w t) ends;
+    closed_failed = λ is. failed_by (with_end w t) t tc s0 sc s1 soundc second_leads.toward.goes_on.keeps_failed first_leads;
+    order = goes_join s0 sc s1 (λ i image. LeftEnding (closes_first w t) w t s0 (record_lengths (closes_first w t) ends) (digest_lengths (closes_first w t) ends) (records_moment (closes_first w t) ends) (digest_moment (closes_first w t) ends) i image ⊎ ((sc.moment ≤ moment_of i) × ImageOf (option_map (λ held. with_opening set' f (with_end w t held)) s0.contents) sc.firm image)) (λ d m. ⊤)
+        (goes_weaker s0 sc _ _ _ _ (λ i image since is. inl is) (λ d m since q. tt) (ending_order (closes_first w t) ends))
+        (goes_weaker sc s1 _ _ _ _ (λ i image since is. inr (since, leads_behind (with_end w t) (with_opening set' f) (λ held. with_opening set' f (with_end w t held)) t tc t1 s0 sc s1 sound0 soundc first_leads second_leads further image is)) (λ d m since q. tt) second_leads.toward.goes_on);
+    others = λ d z old_none new_none. others d z new_none ∙ ends_others (closes_first w t) ends d z old_none;
     ending_calls = rounds_told w.set (ending_rounds w t) sc.failed s1.failed (point_at t s0) (point_at tc sc) second_leads.toward.goes_on.keeps_failed (ends_rounds w t tc s0 sc (closes_first w t) ends);
     opening_calls = calls;
     is = follows_is;

@@ -4,7 +4,7 @@ use Rattle.std.specs.Prelude.{not, option_map}
 use Rattle.std.proofs.lemmas.Bool.{and_parts, both_ways}
 use Rattle.std.proofs.lemmas.List.{append-nil, take_all, take_at}
 use Rattle.zone_bay.specs.Contents.{Contents, Lengths, Extends}
-use Rattle.zone_bay.specs.Images.{IsImage, Instant, moment_of, LeftSince}
+use Rattle.zone_bay.specs.Images.{IsImage, Instant, moment_of}
 use Rattle.zone_bay.specs.Bay.{BayState}
 use Rattle.zone_bay.proofs.Extends.{extends_itself, extends_then}
 use Rattle.marker_format.specs.Zone.{Array}
@@ -186,18 +186,19 @@ module _ (set' least : ℕ) (w w' : Writer) (es : List Entry) (t t' : Table) (he
     no_ending i (inr (inl second)) = no_head (with_digest w t held) is.follows.firm_records own_digest (else_grown (entries_bytes w.geometry.k (digest w))) (now_is (option_map (with_digest w t) old.contents) (with_digest w t held) is.follows.firm_records view.held (ap (option_map (with_digest w t)) is.told) second.1)
     no_ending i (inr (inr third)) = no_head (with_closing w t held) is.follows.firm_digest own_closing (else_grown (closing_bytes w)) (now_is (option_map (with_closing w t) old.contents) (with_closing w t held) is.follows.firm_digest view.held (ap (option_map (with_closing w t)) is.told) third.1)
 
-    opened_then : (i : Instant) → old.moment ≤ moment_of i → new.left i view.held → IsImage (with_opening set' is.follows.formed (with_end w t held)) is.follows.firm_then view.held
+    opened_then : (i : Instant) → old.moment ≤ moment_of i → new.left i view.held → (is.follows.ended_at.moment ≤ moment_of i) × IsImage (with_opening set' is.follows.formed (with_end w t held)) is.follows.firm_then view.held
     opened_then i since left_ = elim (is.follows.order.left i view.held left_) [
       | inl was ↦ absurd (no_head held old.firm own_first (λ absent. refl) (now_is old.contents held old.firm view.held is.told (left_now old view.held is.sound (i, since, was))))
       | inr later ↦ elim later.1 [
         | inl ending ↦ absurd (no_ending i (subst (λ b. LeftEnding b w t old is.follows.firm_records is.follows.firm_digest is.follows.records_moment is.follows.digest_moment i view.held) closes ending))
-        | inr opening_ ↦ now_is (option_map (λ h. with_opening set' is.follows.formed (with_end w t h)) old.contents) (with_opening set' is.follows.formed (with_end w t held)) is.follows.firm_then view.held (ap (option_map (λ h. with_opening set' is.follows.formed (with_end w t h))) is.told) opening_.1
+        | inr opening_ ↦ (opening_.0, now_is (option_map (λ h. with_opening set' is.follows.formed (with_end w t h)) old.contents) (with_opening set' is.follows.formed (with_end w t held)) is.follows.firm_then view.held (ap (option_map (λ h. with_opening set' is.follows.formed (with_end w t h))) is.told) opening_.1)
       ]
     ]
 
+    -- behind the closing
+    pub opened_since : (is.follows.ended_at.moment ≤ moment_of left.left.0) × IsImage (with_opening set' is.follows.formed (with_end w t held)) is.follows.firm_then view.held
+    opened_since = opened_then left.left.0 left.left.1 left.left.2
+
     module _ (e y i : ℕ) (then : IsLiveMember is.follows.closed_table w.set e y i) where
       pub whole_before : view.held e y ≡ zone_bytes (closed w) es i
-      whole_before = by_instant left.left
-        where
-          by_instant : LeftSince new.left old.moment view.held → view.held e y ≡ zone_bytes (closed w) es i
-          by_instant (n, since, left_) = has_whole set' least w w' es t t' held old new is view.held closes e y i then (opened_then n since left_)
+      whole_before = has_whole set' least w w' es t t' held old new is view.held closes e y i then opened_since.1

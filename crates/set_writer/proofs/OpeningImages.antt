@@ -90,7 +90,7 @@ none_ready array held carriers block index (e ∷ es) all =
     ap₂ (λ a b. a || b) (all.0 index (payload_of array held carriers block (at_index index e.marker))) (none_ready array held carriers (block + blocks_of (at_index index e.marker)) index es all.1)
 
 -- fewer than all are none of a ready record
-fewer_not_ready : (array : Array) (held : Contents) (set' : ℕ) (cuts : List (ℕ × ℕ)) (count : ℕ) (carriers : List Carrier) → count < length (opening array set' cuts) → AgreeOn array held carriers (take count (opening array set' cuts))
+pub fewer_not_ready : (array : Array) (held : Contents) (set' : ℕ) (cuts : List (ℕ × ℕ)) (count : ℕ) (carriers : List Carrier) → count < length (opening array set' cuts) → AgreeOn array held carriers (take count (opening array set' cuts))
     → list_any is_ready (records_from array held carriers 0 (agreed array held carriers)) ≡ false
 fewer_not_ready array held set' cuts count [] fewer agree = refl
 fewer_not_ready array held set' cuts count (first ∷ others) fewer agree =

@@ -8,10 +8,10 @@ use Rattle.zone_bay.specs.Contents.{Contents, Lengths}
 use Rattle.zone_bay.specs.Images.{IsImage}
 use Rattle.marker_format.specs.declared.marker.Marker.{Marker}
 use Rattle.marker_format.specs.Zone.{Array, whole_records}
-use Rattle.array_model.specs.Drives.{Place, is_of, first_of, head_at}
-use Rattle.array_model.specs.Reading.{read_set, with_id, with_head, ids_at}
+use Rattle.array_model.specs.Drives.{Place, is_of, first_of, head_at, bytes_at}
+use Rattle.array_model.specs.Reading.{Carrier, carriers_of, read_set, with_id, with_head, ids_at}
 use Rattle.array_model.specs.Sets.{ReadSet}
-use Rattle.array_model.proofs.SameZones.{all-map, TellsSame, carriers_among, read_set-same, Rise, rise_lower, with_id-before, with_id-there, with_id-behind, ids_rise}
+use Rattle.array_model.proofs.SameZones.{all-map, TellsSame, carriers_among, carriers-same, read_set-same, Rise, rise_lower, with_id-before, with_id-there, with_id-behind, ids_rise}
 use Rattle.set_table.specs.declared.zone_use.ZoneUse.{ZoneUse}
 use Rattle.set_table.specs.declared.zone_use.ZoneUse.TheVariants as uses
 use Rattle.set_table.specs.Table.{Table, use_at}
@@ -21,6 +21,7 @@ use Rattle.set_writer.specs.Members.{array_of, of_members, more_at, grown_by, is
 use Rattle.set_writer.specs.Laws.{markers_at}
 use Rattle.set_writer.specs.ImageLaws.{SetBytes, FirstIsOf, AreSetBytes, HoldBytes, View, places_of, cut_back, others_of, OthersSay}
 use Rattle.set_writer.proofs.MemberCalls.{more_live, more_lost, live_or_lost}
+use Rattle.set_writer.proofs.KeptCarriers.{all_contains}
 use Rattle.set_writer.proofs.NextLaws.{member_or_none}
 use Rattle.set_writer.proofs.SetImages.{IsPlace, places_are}
 
@@ -233,13 +234,18 @@ module _ (s : SetBytes) (t : Table) (more : ℕ → List ℕ) (held : Contents) 
         ])
         places
 
-    says_same : read_set (array_of t) view.held (places_of view) other ≡ read_set (array_of t) (cut_back held view.held) (places_of view) other
-    says_same = read_set-same (array_of t) (cut_back held view.held) view.held (places_of view) other tells
-        (carriers_among (array_of t) (cut_back held view.held) view.held (IsPlace view.shape view.drives) (places_of view) other places
+    same_carriers : carriers_of (array_of t) view.held (places_of view) other ≡ carriers_of (array_of t) (cut_back held view.held) (places_of view) other
+    same_carriers = carriers-same (array_of t) (cut_back held view.held) view.held (places_of view) other tells
+
+    same_bytes : AllByRecursion (λ (c : Carrier). bytes_at view.held c.place ≡ bytes_at (cut_back held view.held) c.place) (carriers_of (array_of t) (cut_back held view.held) (places_of view) other)
+    same_bytes = carriers_among (array_of t) (cut_back held view.held) view.held (IsPlace view.shape view.drives) (places_of view) other places
         (λ place index is there. elim (either place) [
           | inl member ↦ absurd (both_ways _ (no_other_is s.set other index _ differ (member_says place there member).1) is)
           | inr absent ↦ sym (same_zone place.device place.zone absent)
-        ]))
+        ])
+
+    says_same : read_set (array_of t) view.held (places_of view) other ≡ read_set (array_of t) (cut_back held view.held) (places_of view) other
+    says_same = read_set-same (array_of t) (cut_back held view.held) view.held (places_of view) other tells same_bytes
 
   pub others_say : OthersSay t s.set held firm view
   others_say = record {
@@ -251,4 +257,7 @@ module _ (s : SetBytes) (t : Table) (more : ℕ → List ℕ) (held : Contents) 
         ∙ ap (map (read_set (array_of t) view.held (places_of view))) (ids_alike (array_of t) view.held (cut_back held view.held) s.set (places_of view) heads)
         ∙ each_other s.set (read_set (array_of t) view.held (places_of view)) (read_set (array_of t) (cut_back held view.held) (places_of view)) (ids_at (array_of t) (cut_back held view.held) (places_of view)) says_same
         ∙ sym (others-map s.set (read_set (array_of t) (cut_back held view.held) (places_of view)) (ids_at (array_of t) (cut_back held view.held) (places_of view)) (λ id. refl));
+    carriers = same_carriers;
+    bytes = same_bytes;
+    heads = λ other index place differ there. all_contains (TellsSame (array_of t) (cut_back held view.held) view.held other) (places_of view) place (tells other differ) there index;
   }

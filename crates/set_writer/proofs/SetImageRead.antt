@@ -8,6 +8,7 @@ use Rattle.marker_format.specs.declared.marker.Marker.{Marker}
 use Rattle.marker_format.specs.Zone.{Array, whole_records}
 use Rattle.marker_format.proofs.ZoneLaws.{Stand-within}
 use Rattle.array_model.specs.Drives.{records_at, bytes_at}
+use Rattle.array_model.specs.Kept.{HavePayloads}
 use Rattle.array_model.specs.Reading.{Carrier, carrier_of, fragments_of, agreed, records_from}
 use Rattle.array_model.proofs.Agreed.{held_by_each}
 use Rattle.array_model.proofs.Carriers.{carries_some}
@@ -18,9 +19,9 @@ use Rattle.set_writer.specs.Entry.{Entry, at_index, entries_bytes, IsEntry}
 use Rattle.set_writer.specs.Members.{array_of}
 use Rattle.set_writer.specs.Writer.{opening, blocks_in}
 use Rattle.set_writer.specs.Laws.{markers_at}
-use Rattle.set_writer.specs.ImageLaws.{SetBytes, bytes_opened, AreSetBytes, View, places_of, carriers_in, AgreeOn, IsCut}
+use Rattle.set_writer.specs.ImageLaws.{SetBytes, bytes_opened, AreSetBytes, View, places_of, carriers_in, AgreeOn, IsCut, MayOpen}
 use Rattle.set_writer.specs.PayloadLaws.{item_of, IsCoded, BeginsWith, AreEnough}
-use Rattle.set_writer.specs.SetReadLaws.{AreRead, SetImageIsRead, OpenedImageIsRead, OpeningIsRead, NextIsRead}
+use Rattle.set_writer.specs.SetReadLaws.{AreRead, SetImageIsRead, OpenedImageIsRead, OpeningIsRead, NextIsRead, SetImageHasPayloads, OpenedImageHasPayloads}
 use Rattle.set_writer.proofs.AgreedRead.{first_end, all_those, all_two, agreed_few}
 use Rattle.set_writer.proofs.ByteLaws.{opening_bytes}
 use Rattle.set_writer.proofs.CutRead.{records_coded, take-behind, entries_join}
@@ -28,6 +29,7 @@ use Rattle.set_writer.proofs.EntryLaws.{length-all_entries}
 use Rattle.set_writer.proofs.FormedLaws.{same_array}
 use Rattle.set_writer.proofs.FoundCarriers.{found_distinct}
 use Rattle.set_writer.proofs.OpeningImages.{opening_are, opened_are_set_bytes, array_f}
+use Rattle.set_writer.proofs.ReadBack.{carriers_have_payloads}
 use Rattle.set_writer.proofs.RecordsRead.{carriers_give_records}
 
 -- the carrier holds a prefix of what its zone was to hold
@@ -87,6 +89,18 @@ module _ (s : SetBytes) (are : AreSetBytes s) (read : AreRead s) where
         each = begin_each held (c ∷ cs) count (omega (arith, long)) holds;
       }) enough
 
+  agreed_payloads : (held : Contents) (cs : List Carrier) (count : ℕ) → AllByRecursion (HoldsCut s held) cs → count ≤ length s.records → AgreeOn s.array held cs (take count s.records) → HavePayloads s.array held cs count
+  agreed_payloads held [] count holds few agree [] after m same less = absurd cc
+  agreed_payloads held [] count holds few agree (b ∷ before) after m same less = absurd cc
+  agreed_payloads held (c ∷ cs) count holds few agree before after m same less =
+      let all = length-take count s.records in
+      let long : length (agreed s.array held (c ∷ cs)) ≡ count = ap length agree ∙ length-map (take count s.records) (λ (e : Entry). at_index c.index e.marker) ∙ (omega (arith, all, few)) in
+      carriers_have_payloads s.array (take count s.records) held (c ∷ cs) c.index [] (record {
+        within = read.within;
+        coded = all-take (IsCoded s.array) count s.records read.coded;
+        each = begin_each held (c ∷ cs) count (omega (arith, long)) holds;
+      }) (agree ∙ sym (append-nil (markers_at c.index (take count s.records)))) before after m same (omega (arith, less, all, few))
+
 holds_cut : (s : SetBytes) (t : Table) (firm : Lengths) (view : View) (c : Carrier) → s.array ≡ array_of t → IsCut s t firm view c → HoldsCut s view.held c
 holds_cut s t firm view c array cut =
     let n = ap (λ (a : Array). a.geometry.k + a.geometry.p) array in
@@ -102,16 +116,26 @@ set_image_is_read s t firm view first array are read enough =
     (record { distinct = found_distinct (carrier_of s.array view.held (places_of view) s.set) (own_index s.array view s.set) 0 (fragments_of s.array); enough = enough })
     (all-map (IsCut s t firm view) (HoldsCut s view.held) (carriers_in view s) (λ c. holds_cut s t firm view c array) first.cut) first.within first.agree
 
+pub set_image_has_payloads : SetImageHasPayloads
+set_image_has_payloads s t firm view first array are read =
+    agreed_payloads s are read view.held (carriers_in view s) first.count (all-map (IsCut s t firm view) (HoldsCut s view.held) (carriers_in view s) (λ c. holds_cut s t firm view c array) first.cut) first.within first.agree
+
 -- ---- a set that is opened
 
+opened_read : (set' : ℕ) (cuts : List (ℕ × ℕ)) (t : Table) → MayOpen set' cuts t → AreRead (bytes_opened (array_of t) set' cuts)
+opened_read set' cuts t may = record {
+  within = may.together.within;
+  coded = records_coded (array_of t) set' 0 (opening (array_of t) set' cuts) (opening_are (array_of t) set' may.together.within may.id may.from may.to cuts may.cuts_are may.kept) (opening_bytes (array_of t) set' cuts);
+  zones = λ index below. ([], sym (append-nil (entries_bytes t.geometry.k (opening (array_of t) set' cuts) index)));
+}
+
 pub opened_image_is_read : OpenedImageIsRead
-opened_image_is_read set' cuts t formed firm view first may array enough =
-    set_image_is_read (bytes_opened (array_of t) set' cuts) formed firm view first (sym array) (opened_are_set_bytes set' cuts t may)
-    (record {
-      within = may.together.within;
-      coded = records_coded (array_of t) set' 0 (opening (array_of t) set' cuts) (opening_are (array_of t) set' may.together.within may.id may.from may.to cuts may.cuts_are may.kept) (opening_bytes (array_of t) set' cuts);
-      zones = λ index below. ([], sym (append-nil (entries_bytes t.geometry.k (opening (array_of t) set' cuts) index)));
-    }) enough
+opened_image_is_read set' cuts t formed firm view first may array =
+    set_image_is_read (bytes_opened (array_of t) set' cuts) formed firm view first (sym array) (opened_are_set_bytes set' cuts t may) (opened_read set' cuts t may)
+
+pub opened_image_has_payloads : OpenedImageHasPayloads
+opened_image_has_payloads set' cuts t formed firm view first may array =
+    set_image_has_payloads (bytes_opened (array_of t) set' cuts) formed firm view first (sym array) (opened_are_set_bytes set' cuts t may) (opened_read set' cuts t may)
 
 pub opening_is_read : (old new : BayState) → OpeningIsRead old new
 opening_is_read old new set' cuts t t' held firm view is first = opened_image_is_read set' cuts t is.opens.formed firm view first is.may (array_f set' cuts t t' held old new is)

@@ -1,7 +1,7 @@
 -- What the plain scan reads of a set.
-use Rattle.std.proofs.Common.{◌≡◌, ℕ, ◌+◌, ◌*◌, ◌<◌, ◌≤◌, Bool, true, false, List, [], ◌∷◌, ◌++◌, length, map, filter, take, Option, Some, None, IfSome, is_some, refl, sym, ap, ap₂, ◌∙◌, subst, arith}
+use Rattle.std.proofs.Common.{◌≡◌, ℕ, ◌+◌, ◌*◌, ◌<◌, ◌≤◌, Bool, true, false, List, [], ◌∷◌, ◌++◌, length, map, take, Option, Some, IfSome, is_some, refl, sym, ap, ap₂, ◌∙◌, subst, arith}
 use Rattle.std.specs.Prelude.{◌&&◌, ◌||◌}
-use Rattle.std.specs.List.{AllByRecursion, list_all, list_any, range_with_len}
+use Rattle.std.specs.List.{AllByRecursion, list_all, list_any}
 use Rattle.std.proofs.lemmas.Bool.{and_from, both_ways, le-leb}
 use Rattle.std.proofs.lemmas.List.{map-append, take_all}
 use Rattle.std.proofs.lemmas.List.Folds.{list_any-append}
@@ -11,7 +11,7 @@ use Rattle.zone_bay.specs.Bay.{BayState}
 use Rattle.marker_format.specs.Zone.{Array, has_foot}
 use Rattle.array_model.specs.Drives.{is_among, bytes_at}
 use Rattle.array_model.specs.Record.{Record, is_ready}
-use Rattle.array_model.specs.Reading.{Carrier, carrier_of, fragments_of}
+use Rattle.array_model.specs.Reading.{Carrier}
 use Rattle.array_model.specs.Enough.{is_settled}
 use Rattle.array_model.specs.Sets.{ReadSet, stands, valid, kept_by}
 use Rattle.array_model.proofs.SameZones.{all-map}
@@ -19,31 +19,38 @@ use Rattle.set_table.specs.declared.zone_use.ZoneUse.TheVariants as uses
 use Rattle.set_table.specs.Table.{Table, use_at}
 use Rattle.set_table.specs.Table as table
 use Rattle.set_writer.specs.declared.first.First.TheVariants.{IsReady}
-use Rattle.set_writer.specs.Entry.{Entry}
+use Rattle.set_writer.specs.Entry.{Entry, HasBytes}
 use Rattle.set_writer.specs.Writer.{Writer, array_by, first_record, headed, opening, blocks_in, zone_bytes, Wrote, Fits}
 use Rattle.set_writer.specs.Laws.{markers_at, records_of}
-use Rattle.set_writer.specs.ImageLaws.{bytes_by, View, places_of, carriers_in, IsCut, HaveFirst}
+use Rattle.set_writer.specs.ImageLaws.{bytes_by, View, carriers_in, IsCut, HaveFirst}
 use Rattle.set_writer.specs.PayloadLaws.{item_of, ListsRecords}
-use Rattle.set_writer.specs.SetReadLaws.{read_in, ImageIsRead, carried_on, Holds, IsRead, are_ready, OpeningIsReady, CallsHold}
+use Rattle.set_writer.specs.SetReadLaws.{read_in, AreRead, ImageIsRead, ImageHasPayloads, carried_on, Holds, IsRead, are_ready, OpeningIsReady, CallsHold}
 use Rattle.set_writer.proofs.ClosedZones.{closed_zone}
 use Rattle.set_writer.proofs.CutRead.{records_are_coded, zone_begins}
 use Rattle.set_writer.proofs.CutZones.{foot_is_whole}
 use Rattle.set_writer.proofs.DigestRead.{digest_lists_records}
-use Rattle.set_writer.proofs.FoundCarriers.{or_right, found_has, found_count, is_carried_on, carried_there, there_carried}
-use Rattle.set_writer.proofs.SetImageRead.{own_index, set_image_is_read}
+use Rattle.set_writer.proofs.FoundCarriers.{or_right}
+use Rattle.set_writer.proofs.SetImageRead.{set_image_is_read, set_image_has_payloads}
+use Rattle.set_writer.proofs.StandReads.{firm_heads_are_carriers}
 use Rattle.set_writer.proofs.WriterImages.{first_blocks, writer_bytes, writer_has_first}
 
 -- ---- images
 
+written_read : (w : Writer) (es : List Entry) → IsWithinLimits w.geometry → Wrote w es → AllByRecursion HasBytes es → AreRead (bytes_by w es)
+written_read w es within wrote bytes = record { within = within; coded = records_are_coded w es wrote bytes; zones = λ index below. zone_begins w es index }
+
 pub image_is_read : ImageIsRead
-image_is_read w es t firm view first within array wrote bytes enough =
-    set_image_is_read (bytes_by w es) t firm view first array (writer_bytes w es wrote)
-    (record { within = within; coded = records_are_coded w es wrote bytes; zones = λ index below. zone_begins w es index }) enough
+image_is_read w es t firm view first within array wrote bytes =
+    set_image_is_read (bytes_by w es) t firm view first array (writer_bytes w es wrote) (written_read w es within wrote bytes)
+
+pub image_has_payloads : ImageHasPayloads
+image_has_payloads w es t firm view first within array wrote bytes =
+    set_image_has_payloads (bytes_by w es) t firm view first array (writer_bytes w es wrote) (written_read w es within wrote bytes)
 
 -- ---- feet and ready records
 
 -- a whole zone has a foot where the set is closed
-foot_is : (w : Writer) (es : List Entry) (index : ℕ) → index < w.geometry.k + w.geometry.p → Wrote w es → has_foot (array_by w) (zone_bytes w es index) ≡ w.is_closed
+pub foot_is : (w : Writer) (es : List Entry) (index : ℕ) → index < w.geometry.k + w.geometry.p → Wrote w es → has_foot (array_by w) (zone_bytes w es index) ≡ w.is_closed
 foot_is w es index below wrote = at (has_foot (array_by w) (zone_bytes w es index)) w.is_closed refl refl
   where
     zone : List ℕ
@@ -59,11 +66,11 @@ same_twice : (b : Bool) → (b && b) ≡ b
 same_twice true = refl
 same_twice false = refl
 
-same_last : (b : Bool) → (b && true) ≡ b
+pub same_last : (b : Bool) → (b && true) ≡ b
 same_last true = refl
 same_last false = refl
 
-all_alike : (f : Carrier → Bool) (b : Bool) (cs : List Carrier) → 1 ≤ length cs → AllByRecursion (λ c. f c ≡ b) cs → list_all f cs ≡ b
+pub all_alike : (f : Carrier → Bool) (b : Bool) (cs : List Carrier) → 1 ≤ length cs → AllByRecursion (λ c. f c ≡ b) cs → list_all f cs ≡ b
 all_alike f b [] some all = absurd (omega (arith, some))
 all_alike f b (c ∷ []) some all = ap (λ x. x && true) all.0 ∙ same_last b
 all_alike f b (c ∷ d ∷ cs) some all = ap₂ (λ x y. x && y) all.0 (all_alike f b (d ∷ cs) (omega arith) all.1) ∙ same_twice b
@@ -83,7 +90,7 @@ opening_is_ready array set' cuts more =
 -- ---- what drives hold
 
 -- all that they hold, as it is firm
-abbrev all_of : View → Lengths
+abbrev pub all_of : View → Lengths
 all_of view d z = length (view.held d z)
 
 module _ (w : Writer) (es : List Entry) (t : Table) (view : View) (holds : Holds w es t view) where
@@ -103,33 +110,8 @@ module _ (w : Writer) (es : List Entry) (t : Table) (view : View) (holds : Holds
       let most = first_blocks c (records_of w es) in
       omega (arith, bytes, long, most)
 
-  carrier_where : (index : ℕ) → 0 ≤ index → index < 0 + (w.geometry.k + w.geometry.p) → is_some (carrier_of (array_by w) view.held (places_of view) w.set index) ≡ is_carried_on t w.set view.drives index
-  carrier_where index from below = at (carrier_of (array_by w) view.held (places_of view) w.set index) (is_carried_on t w.set view.drives index) refl refl
-    where
-      within : index < table.fragments_of t
-      within = let n = count_is in omega (arith, below, n)
-
-      at : (o : Option Carrier) (b : Bool) → carrier_of (array_by w) view.held (places_of view) w.set index ≡ o → is_carried_on t w.set view.drives index ≡ b → is_some o ≡ b
-      at (Some c) true is there = refl
-      at None false is there = refl
-      at None true is there =
-          let it = carried_there t w.set index view.drives there in
-          let zone = holds.together.set_zones it.0 it.1 w.set index it.3 in
-          let zones = holds.zones in
-          let from_ = zone.from in
-          let to_ = zone.to in
-          let some = first_there.found it.0 it.1 index (record { drive = it.2; from = zone.from; to = omega (arith, zones, to_); below = within; use_is = it.3 }) (long_there it.0 it.1 index 1 it.2 within it.3) in
-          sym (ap is_some is) ∙ some
-      at (Some c) false is there =
-          let cut = found_has (carrier_of (array_by w) view.held (places_of view) w.set) (own_index (array_by w) view w.set) (IsCut (bytes_by w es) t (all_of view) view) 0 (fragments_of (array_by w)) index c first_there.cut from below is in
-          let same = own_index (array_by w) view w.set index c is in
-          let carried = there_carried t w.set index view.drives c.place.device c.place.zone cut.drive (cut.use_is ∙ ap (uses.Carrier w.set) same) in
-          absurd (both_ways (is_carried_on t w.set view.drives index) there carried)
-
   pub members_are_carriers : (read_in view (bytes_by w es)).carriers ≡ carried_on t w.set view.drives
-  members_are_carriers =
-      found_count (carrier_of (array_by w) view.held (places_of view) w.set) (own_index (array_by w) view w.set) (is_carried_on t w.set view.drives) 0 (w.geometry.k + w.geometry.p) carrier_where
-      ∙ ap (λ n. length (filter (is_carried_on t w.set view.drives) (range_with_len 0 n))) count_is
+  members_are_carriers = firm_heads_are_carriers (bytes_by w es) t (all_of view) view first_there holds.array holds.together holds.zones (λ d z index drive below is. long_there d z index 1 drive below is)
 
   module _ (enough : t.geometry.k ≤ carried_on t w.set view.drives) where
     within : IsWithinLimits w.geometry

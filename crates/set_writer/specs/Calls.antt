@@ -216,12 +216,16 @@ pub record Follows (set least : ℕ) (w w' : Writer) (t t' : Table) (old new : B
   pub firm_digest : Lengths
   pub digest_firm : closes_first w t ≡ true → IfSome old.contents (λ held. HasAll w.set digest_table firm_digest (with_digest w t held))
   pub digest_still : closes_first w t ≡ true → IfSome old.contents (λ held. HasAll w.set digest_table firm_then (with_digest w t held))
-  pub order : GoesOn old new (λ i image. LeftEnding (closes_first w t) w t old firm_records firm_digest records_moment digest_moment i image ⊎ ((digest_moment ≤ moment_of i) × ImageOf (option_map (λ held. with_opening set formed (with_end w t held)) old.contents) firm_then image)) (λ d m. ⊤)
-  -- no device without a live member of either set was flushed
-  pub others : (d z : ℕ) → (closes_first w t ≡ true → HasZone (is_member (fragments_of t) w.set) t d → ⊥) → (HasZone (is_member (fragments_of formed) set) formed d → ⊥) → new.firm d z ≡ old.firm d z
-  -- the point between the closing and the opening
+  -- the point between the closing and the opening, by which each device failed that was lost in the closing, and behind which the next
+  -- set is first seen
   pub ended_at : Point
   pub ended_table : ended_at.table ≡ closed_table
+  pub digest_before : digest_moment ≤ ended_at.moment
+  pub closed_failed : closes_first w t ≡ true → IfSome old.contents (λ held. (d : ℕ) → Loses t closed_table d → FailedBy old new ended_at.moment d)
+  pub order : GoesOn old new (λ i image. LeftEnding (closes_first w t) w t old firm_records firm_digest records_moment digest_moment i image ⊎ ((ended_at.moment ≤ moment_of i) × ImageOf (option_map (λ held. with_opening set formed (with_end w t held)) old.contents) firm_then image)) (λ d m. ⊤)
+  -- no device without a live member of either set was flushed
+  pub others : (d z : ℕ) → (closes_first w t ≡ true → HasZone (is_member (fragments_of t) w.set) t d → ⊥) → (HasZone (is_member (fragments_of formed) set) formed d → ⊥) → new.firm d z ≡ old.firm d z
+  -- the calls until that point, and those behind it
   pub ending_calls : Rounds w.set (ending_rounds w t) new.failed (point_at t old) ended_at
   pub opening_calls : Rounds set (opening_rounds []) new.failed (record ended_at { table = formed }) (point_at t' new)
   pub is : w' ≡ written (ended w t) set (opening (array_by w) set [])

@@ -1,5 +1,5 @@
 -- Laws of what a crash may leave of a set, in the words in which an array is read. Above them nobody looks at a byte of a set's zones.
-use Rattle.std.specs.Prelude.{◌≡◌, ◌≢◌, ◌⊎◌, ℕ, ◌*◌, ◌<◌, ◌≤◌, Bool, true, false, not, ◌==◌, List, [], ◌∷◌, ◌++◌, length, take, filter, All, Some, None, IsSome}
+use Rattle.std.specs.Prelude.{◌≡◌, ◌≢◌, ◌⊎◌, ℕ, ◌*◌, ◌<◌, ◌≤◌, Bool, true, false, not, ◌&&◌, ◌==◌, List, [], ◌∷◌, ◌++◌, length, take, filter, All, Contains, Option, Some, None, IsSome}
 use Rattle.std.specs.List.{AllByRecursion, list_any}
 use Rattle.smore_base.specs.declared.limits.TheConstants.{BLOCK_BYTES}
 use Rattle.rs_code.specs.Coded.{CodedPayload}
@@ -8,8 +8,8 @@ use Rattle.zone_bay.specs.Images.{IsFirmPrefix, IsImage, LeftSince}
 use Rattle.zone_bay.specs.Bay.{BayState, IsSound}
 use Rattle.marker_format.specs.declared.marker.Marker.{Marker}
 use Rattle.marker_format.specs.declared.marker.TheConstants.{COUNTER_END}
-use Rattle.marker_format.specs.Zone.{Array, begun, whole_records, has_foot}
-use Rattle.array_model.specs.Drives.{Place, is_among, places_on, bytes_at, records_at, first_of}
+use Rattle.marker_format.specs.Zone.{Array, begun, is_rebuilt, trailer_follows, whole_records, has_foot}
+use Rattle.array_model.specs.Drives.{Place, is_among, places_on, bytes_at, records_at, first_of, head_at, is_of}
 use Rattle.array_model.specs.Reading.{Carrier, fragments_of, carrier_of, carriers_of, agreed, are_closed, read_set, reading}
 use Rattle.array_model.specs.ReadingLaws.{is_of_set}
 use Rattle.array_model.specs.Record.{is_ready}
@@ -198,12 +198,18 @@ abbrev pub others_of : ℕ → List ReadSet → List ReadSet
 others_of set sets = filter (λ (s : ReadSet). not (s.id == set)) sets
 
 -- Each other set says what it said: without what was put on the set's zones, the image is one of what was held before, all other zones
--- that are seen hold the same, and of each other set the same is read.
+-- that are seen hold the same, and of each other set the same is read, from the same carriers.
 pub record OthersSay (t : Table) (set : ℕ) (held : Contents) (firm : Lengths) (view : View) : Type 0 where
   pub before : IsImage held firm (cut_back held view.held)
   pub zones : (d z : ℕ) → is_member (table.fragments_of t) set (use_at t.zones d z) ≡ false → cut_back held view.held d z ≡ view.held d z
   pub each : (other : ℕ) → other ≢ set → read_set (array_of t) view.held (places_of view) other ≡ read_set (array_of t) (cut_back held view.held) (places_of view) other
   pub sets : others_of set (reading (array_of t) view.shape view.held view.drives) ≡ others_of set (reading (array_of t) view.shape (cut_back held view.held) view.drives)
+  -- its carriers are the same ones,
+  pub carriers : (other : ℕ) → other ≢ set → carriers_of (array_of t) view.held (places_of view) other ≡ carriers_of (array_of t) (cut_back held view.held) (places_of view) other
+  -- they hold the same,
+  pub bytes : (other : ℕ) → other ≢ set → AllByRecursion (λ (c : Carrier). bytes_at view.held c.place ≡ bytes_at (cut_back held view.held) c.place) (carriers_of (array_of t) (cut_back held view.held) (places_of view) other)
+  -- and each place that is seen tells the same of a head of it
+  pub heads : (other index : ℕ) (place : Place) → other ≢ set → Contains (places_of view) place → is_of other index (head_at (array_of t) view.held place) ≡ is_of other index (head_at (array_of t) (cut_back held view.held) place)
 
 -- So it is in any image of contents in which only the set's zones grew.
 abbrev pub OthersSayTheSame : Type 0
@@ -259,9 +265,41 @@ FlushKeepsAll old new = (w : Writer) (es : List Entry) (t t' : Table) (held : Co
 abbrev pub bytes_opened : Array → ℕ → List (ℕ × ℕ) → SetBytes
 bytes_opened array set cuts = record { array = array; set = set; records = opening array set cuts; zone = entries_bytes array.geometry.k (opening array set cuts) }
 
+-- the head is there, and of another set
+abbrev pub IsOfAnother : ℕ → Option Marker → Type 0
+IsOfAnother set None = ⊥
+IsOfAnother set (Some head) = head.set ≢ set
+
+-- the zone begins as a rebuilt one, whose trailer isn't there: it has no whole head, but begins with one
+abbrev pub is_half_rebuilt : Array → List ℕ → Bool
+is_half_rebuilt array bytes = is_rebuilt (begun array bytes) && not (trailer_follows array bytes (begun array bytes))
+
+-- The zone shows no head of the set: it holds nothing, has a whole head of another set, begins with one of another set, or has no whole
+-- head and isn't half rebuilt.
+abbrev pub ShowsNone : Array → ℕ → Contents → Place → Type 0
+ShowsNone array set held place =
+    (bytes_at held place ≡ []) ⊎ IsOfAnother set (head_at array held place) ⊎ IsOfAnother set (first_of (begun array (bytes_at held place)))
+    ⊎ ((head_at array held place ≡ None) × (is_half_rebuilt array (bytes_at held place) ≡ false))
+
 -- no set zone of these drives begins with a whole head of the set
 abbrev pub IsNew : Array → ℕ → Contents → List ℕ → Type 0
 IsNew array set held drives = (d z : ℕ) → is_among drives d ≡ true → 2 ≤ z → begins_with array set (held d z) ≡ false
+
+-- So it is where these zones hold nothing,
+abbrev pub NothingIsNew : Type 0
+NothingIsNew = (array : Array) (set : ℕ) (held : Contents) (drives : List ℕ) → ((d z : ℕ) → is_among drives d ≡ true → 2 ≤ z → held d z ≡ []) → IsNew array set held drives
+
+-- or each of them shows none of it,
+abbrev pub NewByZone : Type 0
+NewByZone = (array : Array) (set : ℕ) (held : Contents) (drives : List ℕ) → ((d z : ℕ) → is_among drives d ≡ true → 2 ≤ z → ShowsNone array set held (record { device = d; zone = z })) → IsNew array set held drives
+
+-- and where it is, a set is alone.
+abbrev pub NewIsAlone : Type 0
+NewIsAlone = (t : Table) (set : ℕ) (held : Contents) (drives : List ℕ) → IsNew (array_of t) set held drives → IsAlone t set held drives
+
+-- It is alone too where each zone carries it by the table or shows none of it.
+abbrev pub AloneByZone : Type 0
+AloneByZone = (t : Table) (set : ℕ) (held : Contents) (drives : List ℕ) → ((d z : ℕ) → is_among drives d ≡ true → 2 ≤ z → IsMember t set d z ⊎ ShowsNone (array_of t) set held (record { device = d; zone = z })) → IsAlone t set held drives
 
 -- what is asked of a set that is opened in the table
 pub record MayOpen (set : ℕ) (cuts : List (ℕ × ℕ)) (t : Table) : Type 0 where

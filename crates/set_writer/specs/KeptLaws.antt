@@ -125,7 +125,11 @@ abbrev pub IsCarriedOnce : Table → ℕ → List ℕ → Type 0
 IsCarriedOnce t set drives =
     (d z e y index : ℕ) → is_among drives d ≡ true → is_among drives e ≡ true → use_at t.zones d z ≡ uses.Carrier set index → use_at t.zones e y ≡ uses.Carrier set index → (d ≡ e) × (z ≡ y)
 
--- Where that is so, no two zones that are seen have a whole head of one index of the set.
+-- It is so of any table,
+abbrev pub TablesCarryOnce : Type 0
+TablesCarryOnce = (t : Table) (set : ℕ) (drives : List ℕ) → HangsTogether t → IsCarriedOnce t set drives
+
+-- and where it is, no two zones that are seen have a whole head of one index of the set.
 abbrev pub PlacesAreAlone : Type 0
 PlacesAreAlone = (s : SetBytes) (t : Table) (firm : Lengths) (view : View) → s.array ≡ array_of t → AreSetBytes s → IsShown s t firm view → IsCarriedOnce t s.set view.drives
     → (index : ℕ) (one other : Place) → Contains (places_of view) one → Contains (places_of view) other → is_of s.set index (head_at s.array view.held one) ≡ true → is_of s.set index (head_at s.array view.held other) ≡ true → one ≡ other

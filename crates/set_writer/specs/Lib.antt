@@ -9,8 +9,10 @@ pub mod KeptLaws
 pub mod Laws
 pub mod Members
 pub mod PayloadLaws
+pub mod ReadLaws
 pub mod Refusal
 pub mod Rounds
 pub mod SetReadLaws
+pub mod StandLaws
 pub mod TableLaws
 pub mod Writer

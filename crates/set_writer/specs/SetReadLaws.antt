@@ -8,6 +8,7 @@ use Rattle.marker_format.specs.Zone.{Array}
 use Rattle.array_model.specs.Record.{is_ready}
 use Rattle.array_model.specs.Sets.{ReadSet, stands}
 use Rattle.array_model.specs.Enough.{is_settled}
+use Rattle.array_model.specs.Kept.{HavePayloads}
 use Rattle.array_model.specs.Reading.{read_set}
 use Rattle.array_model.specs.Reading as model
 use Rattle.set_table.specs.Zones.{carries}
@@ -18,7 +19,7 @@ use Rattle.set_writer.specs.Writer.{Writer, array_by, opening, Wrote, Fits}
 use Rattle.set_writer.specs.Fit.{live_of}
 use Rattle.set_writer.specs.Calls.{IsOf, FitsIn}
 use Rattle.set_writer.specs.Laws.{markers_at, records_of}
-use Rattle.set_writer.specs.ImageLaws.{SetBytes, bytes_by, bytes_opened, AreSetBytes, MayOpen, IsOpened, IsFollowed, View, places_of, AreLive, IsAlone, HaveFirst}
+use Rattle.set_writer.specs.ImageLaws.{SetBytes, bytes_by, bytes_opened, AreSetBytes, MayOpen, IsOpened, IsFollowed, View, places_of, carriers_in, AreLive, IsAlone, HaveFirst}
 use Rattle.set_writer.specs.PayloadLaws.{item_of, IsCoded, ListsRecords}
 
 -- what is read of the set there
@@ -57,6 +58,20 @@ NextIsRead old new = (set least : ℕ) (w w' : Writer) (es : List Entry) (t t' :
 abbrev pub ImageIsRead : Type 0
 ImageIsRead = (w : Writer) (es : List Entry) (t : Table) (firm : Lengths) (view : View) (first : HaveFirst (bytes_by w es) t firm view) → IsWithinLimits w.geometry → array_by w ≡ array_of t → Wrote w es → AllByRecursion HasBytes es
     → w.geometry.k ≤ (read_in view (bytes_by w es)).carriers → (read_in view (bytes_by w es)).records ≡ map item_of (take first.count (records_of w es))
+
+-- The carriers have fragments of one payload of each record that they agree on, in what a crash left of a set,
+abbrev pub SetImageHasPayloads : Type 0
+SetImageHasPayloads = (s : SetBytes) (t : Table) (firm : Lengths) (view : View) (first : HaveFirst s t firm view) → s.array ≡ array_of t → AreSetBytes s → AreRead s → HavePayloads s.array view.held (carriers_in view s) first.count
+
+-- of one that is opened,
+abbrev pub OpenedImageHasPayloads : Type 0
+OpenedImageHasPayloads = (set : ℕ) (cuts : List (ℕ × ℕ)) (t formed : Table) (firm : Lengths) (view : View) (first : HaveFirst (bytes_opened (array_of t) set cuts) formed firm view) → MayOpen set cuts t → array_of formed ≡ array_of t
+    → HavePayloads (array_of t) view.held (carriers_in view (bytes_opened (array_of t) set cuts)) first.count
+
+-- and of what a writer wrote.
+abbrev pub ImageHasPayloads : Type 0
+ImageHasPayloads = (w : Writer) (es : List Entry) (t : Table) (firm : Lengths) (view : View) (first : HaveFirst (bytes_by w es) t firm view) → IsWithinLimits w.geometry → array_by w ≡ array_of t → Wrote w es → AllByRecursion HasBytes es
+    → HavePayloads (array_by w) view.held (carriers_in view (bytes_by w es)) first.count
 
 -- ---- what drives hold
 

@@ -4,7 +4,8 @@ use Rattle.std.specs.List.{slice_set}
 use Rattle.zone_bay.specs.Contents.{Contents, Lengths}
 use Rattle.zone_bay.specs.Bay.{BayState}
 use Rattle.set_table.specs.declared.zone_use.ZoneUse.TheVariants as uses
-use Rattle.set_table.specs.Table.{Table, use_at, put_use, taken, is_live, Adds, KeepsCarried}
+use Rattle.set_table.specs.declared.members.Member.{Member}
+use Rattle.set_table.specs.Table.{Table, use_at, put_use, taken, is_live, Forms, Adds, KeepsCarried}
 use Rattle.set_writer.specs.Entry.{Entry}
 use Rattle.set_writer.specs.Members.{array_of}
 use Rattle.set_writer.specs.Writer.{Writer, written, EmptyHold, Fits}
@@ -92,6 +93,10 @@ LossesKeepSet = (set : ℕ) (t t' : Table) → t' ≡ record t { lost = t'.lost 
 -- where an empty zone is taken,
 abbrev pub TakeKeepsSet : Type 0
 TakeKeepsSet = (set device zone : ℕ) (t t' : Table) → t' ≡ record t { zones = put_use device zone (taken (use_at t.zones device zone)) t.zones } → KeepsSet set t t'
+
+-- where another set is formed,
+abbrev pub FormKeepsSet : Type 0
+FormKeepsSet = (set other : ℕ) (members : List Member) (t t' : Table) → other ≢ set → Forms t other members t' → KeepsSet set t t'
 
 -- where a zone is put to another set,
 abbrev pub AddKeepsSet : Type 0

@@ -1,6 +1,6 @@
 //! What a crash may leave of a set. These functions do nothing: their contracts are the theorems.
 
-ghost use Rattle.set_writer.specs.ImageLaws.{CutListHasFirst, CutDigestsHaveFirst, CutZoneHasThose, CutZoneHasNoFoot, ImageHasFirst, WriterHasFirst, WrittenAreSetBytes, OpenedAreSetBytes, WholeIsLeftWhole, ClosedHasFeet, WholeHasRecords, OthersSayTheSame, AppendLeavesFirst, FlushLeavesFirst, FlushKeepsAll, OpeningLeavesFirst, ClosingLeavesFirst, FootComesLast, NextLeavesFirst, NextHeadComesLast, FirmMembersHaveAll, AppendKeepsFirm, FirmIsOfClosed, FlushKeepsSets, AppendKeepsSets, OpeningKeepsSets, ClosingKeepsSets, NextKeepsSets, NextKeepsOld, CrashKeepsAlone};
+ghost use Rattle.set_writer.specs.ImageLaws.{CutListHasFirst, CutDigestsHaveFirst, CutZoneHasThose, CutZoneHasNoFoot, ImageHasFirst, WriterHasFirst, WrittenAreSetBytes, OpenedAreSetBytes, WholeIsLeftWhole, ClosedHasFeet, WholeHasRecords, OthersSayTheSame, AppendLeavesFirst, FlushLeavesFirst, FlushKeepsAll, OpeningLeavesFirst, ClosingLeavesFirst, FootComesLast, NextLeavesFirst, NextHeadComesLast, FirmMembersHaveAll, AppendKeepsFirm, FirmIsOfClosed, FlushKeepsSets, AppendKeepsSets, OpeningKeepsSets, ClosingKeepsSets, NextKeepsSets, NextKeepsOld, CrashKeepsAlone, NothingIsNew, NewByZone, NewIsAlone, AloneByZone};
 ghost use Rattle.set_writer.specs.ClosedLaws.{ClosedAgreeOnAll, ClosedHasDigest, LostBeforeFeet, NextFootComesLast, NextLostBeforeFeet, NextByteComesLast, FirmIsOfGrown};
 
 use zone_bay::Bay;
@@ -81,6 +81,15 @@ pub fn firm_records_stay<B: Bay>()
     ensures append { (old new : B) → AppendKeepsFirm (B.state old) (B.state new) }
     ensures grown { FirmIsOfGrown }
     ensures closed { FirmIsOfClosed }
+{}
+
+/// A set isn't there yet where zones hold nothing or show heads of other sets, and one that isn't there is alone. So is one
+/// where each zone carries it by the table or shows none of it.
+pub fn new_sets_are_alone()
+    ensures new { NothingIsNew }
+    ensures zone { NewByZone }
+    ensures alone { NewIsAlone }
+    ensures members { AloneByZone }
 {}
 
 /// A call on one set keeps what the zones of the others hold, and what is alone. A crash keeps what is alone.

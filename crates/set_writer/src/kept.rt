@@ -1,7 +1,7 @@
 //! What a store keeps true of an array, as far as the calls of a writer answer for it. These functions do nothing: their
 //! contracts are the theorems.
 
-ghost use Rattle.set_writer.specs.KeptLaws.{FlushKeepsRest, AppendKeepsRest, OpeningKeepsRest, ClosingKeepsRest, NextKeepsRest, FlushShows, AppendShows, OpeningShows, ClosingShows, NextShows, FlushShowsOthers, AppendShowsOthers, OpeningShowsOthers, ClosingShowsOthers, NextShowsOthers, ListsAreOne, PlacesAreAlone, WrittenAreKept, OpenedAreKept, ZonesAreKept};
+ghost use Rattle.set_writer.specs.KeptLaws.{FlushKeepsRest, AppendKeepsRest, OpeningKeepsRest, ClosingKeepsRest, NextKeepsRest, FlushShows, AppendShows, OpeningShows, ClosingShows, NextShows, FlushShowsOthers, AppendShowsOthers, OpeningShowsOthers, ClosingShowsOthers, NextShowsOthers, ListsAreOne, TablesCarryOnce, PlacesAreAlone, WrittenAreKept, OpenedAreKept, ZonesAreKept};
 
 use zone_bay::Bay;
 
@@ -34,10 +34,11 @@ pub fn other_sets_are_shown<B: Bay>()
     ensures next { (old new : B) → NextShowsOthers (B.state old) (B.state new) }
 {}
 
-/// The carriers that are found of a set have one list of records. Where the table has each index of it once, none is found
+/// The carriers that are found of a set have one list of records. A table has each index of a set once, so none is found
 /// twice.
 pub fn sets_hang_together()
     ensures lists { ListsAreOne }
+    ensures once { TablesCarryOnce }
     ensures alone { PlacesAreAlone }
 {}
 

@@ -2,7 +2,7 @@
 //! theorems.
 
 ghost use Rattle.set_writer.specs.PayloadLaws.{FragmentsAreOfPayload, CarriersHaveOnePayload, CarriersHavePayloads, CarriersGiveRecords, RecordsAreCoded, CutZoneBegins, WrittenIsRead, AgreedIsRead, LinesAreOfRecords, DigestHasLines, DigestListsRecords};
-ghost use Rattle.set_writer.specs.SetReadLaws.{SetImageIsRead, OpenedImageIsRead, OpeningIsRead, NextIsRead, ImageIsRead, MembersAreCarriers, WholeIsRead, DigestIsRead, OpeningIsReady, OpenedStands, ClosedIsSettled, LiveMembersAreCarried, CallsHold};
+ghost use Rattle.set_writer.specs.SetReadLaws.{SetImageIsRead, OpenedImageIsRead, OpeningIsRead, NextIsRead, ImageIsRead, SetImageHasPayloads, OpenedImageHasPayloads, ImageHasPayloads, MembersAreCarriers, WholeIsRead, DigestIsRead, OpeningIsReady, OpenedStands, ClosedIsSettled, LiveMembersAreCarried, CallsHold};
 
 use zone_bay::Bay;
 
@@ -36,6 +36,14 @@ pub fn images_are_read<B: Bay>()
     ensures opened { OpenedImageIsRead }
     ensures opening { (old new : B) → OpeningIsRead (B.state old) (B.state new) }
     ensures next { (old new : B) → NextIsRead (B.state old) (B.state new) }
+{}
+
+/// The carriers that are found of a set in what a crash left of it have fragments of one payload of each record that they
+/// agree on, be it opened, written or closed.
+pub fn images_have_payloads()
+    ensures set { SetImageHasPayloads }
+    ensures opened { OpenedImageHasPayloads }
+    ensures written { ImageHasPayloads }
 {}
 
 /// So the plain scan reads the records of a set as they were written, also from what a crash left of it. Where k of its

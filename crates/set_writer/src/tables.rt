@@ -1,7 +1,7 @@
-//! What stays of a set where its table is changed outside the writer's calls, and whose a writer is. These functions do nothing: their contracts
-//! are the theorems.
+//! What stays of a set where its table is changed outside the writer's calls, and whose a writer is. These functions do
+//! nothing: their contracts are the theorems.
 
-ghost use Rattle.set_writer.specs.TableLaws.{TableKeepsOf, TableKeepsHeld, TableKeepsFirm, TableKeepsWhole, TableKeepsAlone, TableKeepsNew, TableKeepsFits, TableKeepsEmpty, TableKeepsFitsIn, TableKeepsFitsSome, MarkKeepsSet, RoomKeepsSet, LossKeepsSet, LossesKeepSet, TakeKeepsSet, AddKeepsSet, ReleaseKeepsSet, WrittenIsOpen, RoomKeepsBytes, RoomKeepsHeld, RoomKeepsOf};
+ghost use Rattle.set_writer.specs.TableLaws.{TableKeepsOf, TableKeepsHeld, TableKeepsFirm, TableKeepsWhole, TableKeepsAlone, TableKeepsNew, TableKeepsFits, TableKeepsEmpty, TableKeepsFitsIn, TableKeepsFitsSome, MarkKeepsSet, RoomKeepsSet, LossKeepsSet, LossesKeepSet, TakeKeepsSet, FormKeepsSet, AddKeepsSet, ReleaseKeepsSet, WrittenIsOpen, RoomKeepsBytes, RoomKeepsHeld, RoomKeepsOf};
 
 use zone_bay::Bay;
 
@@ -20,14 +20,15 @@ pub fn table_changes_keep<B: Bay>()
     ensures fits_some { (bay : B) → TableKeepsFitsSome (B.state bay) }
 {}
 
-/// So it is where sets are marked, room is found, devices are lost, an empty zone is taken, and where a zone is put to
-/// another set or given back.
+/// So it is where sets are marked, room is found, devices are lost, an empty zone is taken, another set is formed, and where
+/// a zone is put to another set or given back.
 pub fn changes_keep_sets()
     ensures mark { MarkKeepsSet }
     ensures room { RoomKeepsSet }
     ensures loss { LossKeepsSet }
     ensures losses { LossesKeepSet }
     ensures take { TakeKeepsSet }
+    ensures form { FormKeepsSet }
     ensures add { AddKeepsSet }
     ensures release { ReleaseKeepsSet }
 {}

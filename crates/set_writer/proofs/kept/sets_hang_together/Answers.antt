@@ -6,3 +6,6 @@ returns-clause-lists c = lists_are_one
 
 pub returns-clause-alone : goal.returns-clause-alone
 returns-clause-alone c = places_are_alone
+
+pub returns-clause-once : goal.returns-clause-once
+returns-clause-once c = λ t set' drives together d z e y index drive other one same. together.once d z e y set' index one same

@@ -1,4 +1,5 @@
 use Rattle.set_writer.proofs.TableChanges.{mark_keeps, room_keeps, loss_keeps, losses_keep, take_keeps, add_keeps, release_keeps}
+use Rattle.set_writer.proofs.FormChanges.{form_keeps}
 use Rattle.set_writer.proofs.tables.changes_keep_sets.Goals as goal
 
 pub returns-clause-mark : goal.returns-clause-mark
@@ -15,6 +16,9 @@ returns-clause-losses c = losses_keep
 
 pub returns-clause-take : goal.returns-clause-take
 returns-clause-take c = take_keeps
+
+pub returns-clause-form : goal.returns-clause-form
+returns-clause-form c = form_keeps
 
 pub returns-clause-add : goal.returns-clause-add
 returns-clause-add c = add_keeps
