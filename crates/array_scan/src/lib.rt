@@ -34,6 +34,3 @@ pub use records::ValidRecord;
 pub use refusal::ScanRefusal;
 pub use set_read::{Carrier, RecordAt, SetRead, ZonePlace};
 pub use sets::Sets;
-
-#[cfg(test)]
-mod tests;

@@ -11,6 +11,3 @@ mod shape_line;
 mod zone_file;
 
 pub use file_bay::FileBay;
-
-#[cfg(test)]
-mod tests;

@@ -17,6 +17,3 @@ mod zone;
 pub use image::Image;
 pub use keep::Keep;
 pub use memory_bay::MemoryBay;
-
-#[cfg(test)]
-mod tests;

@@ -11,6 +11,3 @@ mod tables;
 
 pub use arithmetic::{div, inv, mul};
 pub use laws::{field_laws, one_polynomial};
-
-#[cfg(test)]
-mod tests;

@@ -7,6 +7,3 @@ mod long_rows;
 mod rows;
 
 pub use rows::{mul_add, mul_add_both, mul_into, mul_into_both};
-
-#[cfg(test)]
-mod tests;

@@ -27,6 +27,3 @@ pub use laws::{
 };
 pub use marker::{COUNTER_END, MARKER_BYTES, Marker, read_marker, write_marker};
 pub use tag::Tag;
-
-#[cfg(test)]
-mod tests;

@@ -8,3 +8,4 @@ pub mod Pieces
 pub mod Payloads
 pub mod Parts
 pub mod Indexes
+pub mod Joined

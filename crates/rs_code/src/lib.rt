@@ -13,6 +13,3 @@ pub use blob::Blob;
 pub use code::Code;
 pub use coded::Coded;
 pub use laws::{any_fragments, one_code};
-
-#[cfg(test)]
-mod tests;

@@ -13,6 +13,3 @@ pub use laws::{first_lines_are_a_list, lines_are_of_records, spellings_are_apart
 pub use line::{Line, write_line};
 pub use lines::write_lines;
 pub use smore_base::closing;
-
-#[cfg(test)]
-mod tests;

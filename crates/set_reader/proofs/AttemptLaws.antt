@@ -5,7 +5,7 @@ use Rattle.marker_format.specs.declared.marker.Marker.{Marker}
 use Rattle.zone_bay.specs.Bay.{BayState}
 use Rattle.zone_bay.proofs.Stretch.{no_fault}
 use Rattle.set_table.specs.Table.{Table, is_live}
-use Rattle.set_writer.specs.Rounds.{Point, point_at, last_point}
+use Rattle.set_table.specs.Points.{Point, point_at, last_point}
 use Rattle.set_reader.specs.Calls.{ReadsUntil}
 use Rattle.set_reader.specs.Record.{StandsAt}
 use Rattle.set_reader.specs.Attempts.{Answered, Failed, EachFailed, Attempts, ReadsInAttempts}

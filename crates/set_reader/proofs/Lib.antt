@@ -9,5 +9,3 @@ pub mod RowLaws
 pub mod SourceLaws
 pub mod FirstLaws
 pub mod PayloadLaws
-pub mod WrittenLaws
-pub mod KeepLaws

@@ -6,12 +6,12 @@ use Rattle.zone_bay.specs.Contents.{Contents}
 use Rattle.zone_bay.specs.Bay.{BayState}
 use Rattle.marker_format.specs.declared.marker.Marker.{Marker}
 use Rattle.set_table.specs.Table.{Table, IsCarrier, fragments_of, use_at}
-use Rattle.set_writer.specs.Rounds.{point_at}
+use Rattle.set_table.specs.Points.{point_at}
 use Rattle.set_reader.specs.Attempts.{Answered, Attempts, Failed}
 use Rattle.set_reader.specs.Calls.{live_count, losses, OnlyReadsBy, CallsAtMost}
 use Rattle.marker_format.specs.Zone.{Array}
-use Rattle.set_writer.specs.Members.{array_of}
-use Rattle.set_reader.specs.Laws.{OnlyLoses}
+use Rattle.set_table.specs.Table.{array_of}
+use Rattle.set_reader.specs.Calls.{OnlyLoses}
 use Rattle.set_reader.specs.Record.{HasRecord, StandsAt}
 use Rattle.set_reader.proofs.CallLaws.{no_calls, calls_sum, calls_more}
 use Rattle.set_reader.proofs.LossLaws.{nothing_read, reads_then}

@@ -16,7 +16,7 @@ use Rattle.array_model.specs.Payload as model
 use Rattle.array_model.specs.Payload.{Fragment, fragment_from}
 use Rattle.array_model.proofs.Payloads.{fragment_is}
 use Rattle.set_table.specs.declared.members.Member.{Member}
-use Rattle.set_writer.proofs.ByteLaws.{joined_pieces}
+use Rattle.rs_code.proofs.Joined.{joined_pieces}
 use Rattle.set_reader.specs.Rows.{HasBlocks, fragment_on, rows_of, given_by, indexes_of, sources_from, AreSources, space_of}
 
 -- ---- indexes

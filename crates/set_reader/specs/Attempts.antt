@@ -7,7 +7,7 @@ use Rattle.zone_bay.specs.Outside.{Rose}
 use Rattle.zone_bay.specs.Bay.{BayState}
 use Rattle.marker_format.specs.declared.marker.Marker.{Marker}
 use Rattle.set_table.specs.Table.{Table, is_live}
-use Rattle.set_writer.specs.Rounds.{Point, point_at, last_point}
+use Rattle.set_table.specs.Points.{Point, point_at, last_point}
 use Rattle.set_reader.specs.Record.{StandsAt}
 
 -- An attempt of so many calls at most, all of which were answered. No device was lost.

@@ -13,6 +13,11 @@ live_count t = length (filter not t.lost)
 abbrev pub losses : Table → Table → ℕ
 losses t t' = live_count t - live_count t'
 
+-- devices were lost, and nothing else changed, as reads do
+pub record OnlyLoses (t t' : Table) : Type 0 where
+  pub table : t' ≡ record t { lost = t'.lost }
+  pub stays_lost : (d : ℕ) → is_live t' d ≡ true → is_live t d ≡ true
+
 -- Calls only read. A device on which one failed is lost, and no other; it was live before, and its failure is told as one over
 -- what was held. Of the table nothing else changed.
 pub record OnlyReadsBy (t t' : Table) (old new : BayState) : Type 0 where

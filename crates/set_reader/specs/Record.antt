@@ -9,7 +9,7 @@ use Rattle.array_model.specs.Reading.{Carrier, aside, fragment_on, payload_of}
 use Rattle.set_table.specs.Table.{Table, IsCarrier, fragments_of, missing_of}
 use Rattle.set_reader.specs.declared.refusal.ReadRefusal.{ReadRefusal}
 use Rattle.set_reader.specs.declared.lengths.Lengths.{Lengths}
-use Rattle.set_writer.specs.Members.{array_of}
+use Rattle.set_table.specs.Table.{array_of}
 use Rattle.set_reader.specs.Carriers.{AreCarriers, Refuses}
 use Rattle.set_reader.specs.Rows.{sources_from}
 

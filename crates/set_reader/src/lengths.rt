@@ -5,7 +5,7 @@ ghost use Rattle.smore_base.specs.declared.limits.TheConstants.{BLOCK_BYTES, MAX
 ghost use Rattle.marker_format.specs.Zone.{block_at};
 ghost use Rattle.marker_format.specs.Marker.{IsMarker};
 ghost use Rattle.marker_format.specs.Block.{marker_in_block};
-ghost use Rattle.set_writer.specs.Rounds.{point_at};
+ghost use Rattle.set_table.specs.Points.{point_at};
 ghost use Rattle.set_reader.specs.Attempts.{Answered, Attempts, Failed};
 ghost use Rattle.set_reader.specs.Calls.{CallsAtMost, ReadsUntil, failed_by, OnlyReadsBy, live_count, losses};
 ghost use Rattle.set_reader.specs.Carriers.{HasEnough, Refuses};

@@ -1,7 +1,7 @@
 ghost use Rattle.std.specs.Prelude.{◌≡◌, ◌+◌, ◌*◌, ◌<◌, ◌≤◌, true, false, length, take, drop, IfSome, IfOk, IfErr, OnOk, OnErr};
 ghost use Rattle.zone_bay.specs.Contents.{IsOfBay};
 ghost use Rattle.smore_base.specs.declared.limits.TheConstants.{MAX_SHARD_BYTES};
-ghost use Rattle.set_writer.specs.Rounds.{point_at};
+ghost use Rattle.set_table.specs.Points.{point_at};
 ghost use Rattle.set_reader.specs.Attempts.{Answered, Attempts, Failed, ReadsInAttempts};
 ghost use Rattle.set_reader.specs.Calls.{CallsAtMost, OnlyReadsBy, live_count, losses};
 ghost use Rattle.set_reader.specs.Carriers.{HasEnough, Refuses};

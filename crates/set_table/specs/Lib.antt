@@ -1,3 +1,4 @@
 pub mod Zones
 pub mod Rows
 pub mod Table
+pub mod Points

@@ -6,6 +6,7 @@ use Rattle.smore_base.specs.declared.geometry.Geometry.{Geometry}
 use Rattle.smore_base.specs.declared.limits.TheConstants.{MAX_FRAGMENTS}
 use Rattle.smore_base.specs.Geometry.{IsWithinLimits}
 use Rattle.smore_base.specs.Room.{room}
+use Rattle.marker_format.specs.Zone.{Array}
 use Rattle.set_table.specs.declared.zone_use.ZoneUse.{ZoneUse}
 use Rattle.set_table.specs.declared.zone_use.ZoneUse.TheVariants.{Empty, Taken, Carrier}
 use Rattle.set_table.specs.declared.members.Member.{Member}
@@ -140,6 +141,10 @@ drives_of g = range_with_len 0 g.drives
 -- a live drive has a zone that carries the index of the set
 abbrev pub is_carried : Table → ℕ → ℕ → Bool
 is_carried t set index = list_any (λ d. is_live t d && list_any (carries set index) (zones_of t.zones d)) (drives_of t.geometry)
+
+-- what a table's labels say
+abbrev pub array_of : Table → Array
+array_of t = record { geometry = t.geometry; id = t.array }
 
 abbrev pub fragments_of : Table → ℕ
 fragments_of t = t.geometry.k + t.geometry.p

@@ -6,8 +6,6 @@ mod drive_zones;
 mod members;
 mod rows;
 mod table;
-#[cfg(test)]
-mod tests;
 mod zone_use;
 
 pub use members::{Member, Members, TooFew};

@@ -12,7 +12,7 @@ use Rattle.array_model.specs.Reading.{Carrier, alike, agree, common, agreed}
 use Rattle.set_table.specs.declared.zone_use.ZoneUse.TheVariants as uses
 use Rattle.set_table.specs.Table.{Table, use_at, is_live}
 use Rattle.set_writer.specs.Entry.{Entry, at_index}
-use Rattle.set_writer.specs.Members.{array_of}
+use Rattle.set_table.specs.Table.{array_of}
 use Rattle.set_writer.specs.Writer.{Writer, array_by, written, digest, zone_bytes, AreRecordsFrom, Wrote, Fits}
 use Rattle.set_writer.specs.Laws.{markers_at, records_of, HoldsRecords}
 use Rattle.set_writer.proofs.FirstLaws.{same_bytes}

@@ -12,7 +12,8 @@ use Rattle.set_table.specs.Table.{Table, use_at, is_live, fragments_of}
 use Rattle.set_writer.specs.declared.first.First.{First}
 use Rattle.set_writer.specs.declared.first.First.TheVariants.{Opens, Keeps, IsReady}
 use Rattle.set_writer.specs.Entry.{Entry, entry_bytes, entries_bytes}
-use Rattle.set_writer.specs.Members.{of_members, GrowsBy, Grows, Spreads, Flushes, is_member, HasZone, AllFirm, OthersStay, MembersFirm, HoldBlocks, array_of}
+use Rattle.set_writer.specs.Members.{of_members, GrowsBy, Grows, Spreads, Flushes, is_member, HasZone, AllFirm, OthersStay, MembersFirm, HoldBlocks}
+use Rattle.set_table.specs.Table.{array_of}
 use Rattle.set_writer.specs.Writer.{Writer, array_by, begun, behind, written, first_marker, first_record, cuts_from, headed, opening, IsRecordAt}
 use Rattle.set_writer.specs.Calls.{IsOf, IsCuts, MayBegin, Began}
 use Rattle.set_writer.proofs.MemberCalls.{grows_none, grows_then, flush_grows}

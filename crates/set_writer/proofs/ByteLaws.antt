@@ -9,6 +9,7 @@ use Rattle.gf_field.specs.Polynomial.{value_at}
 use Rattle.gf_field.proofs.Polynomial.{value_is_byte}
 use Rattle.rs_code.specs.Fragments.{IsCode, IsFragment, piece, fragment_len, padded, fragment_at}
 use Rattle.rs_code.proofs.Payloads.{length-padded}
+use Rattle.rs_code.proofs.Joined.{joined_pieces}
 use Rattle.marker_format.specs.Zone.{Array}
 use Rattle.set_digest.specs.declared.line.Line.{Line}
 use Rattle.set_digest.specs.Line.{spelling_of, fields_of}
@@ -33,19 +34,6 @@ all_front P (x ∷ xs) ys all = (all.0, all_front P xs ys all.1)
 pub all_behind : {X : Type 0} (P : X → Type 0) (xs ys : List X) → AllByRecursion P (xs ++ ys) → AllByRecursion P ys
 all_behind P [] ys all = all
 all_behind P (x ∷ xs) ys all = all_behind P xs ys all.1
-
--- bytes are what their pieces are
-pub joined_pieces : (k f from : ℕ) (g : ℕ → List ℕ) (bytes : List ℕ) → length bytes ≡ k * f → ((i : ℕ) → i < k → piece bytes f i ≡ g (from + i)) → bytes ≡ flat_map g (range_with_len from k)
-joined_pieces zero f from g bytes size each = nil_from_length bytes (let e : 0 * f ≡ 0 = omega arith in size ∙ e)
-joined_pieces (suc k) f from g bytes size each =
-    let first : take f bytes ≡ g from =
-    ap (λ j. take f (drop j bytes)) (let e : 0 ≡ 0 * f = omega arith in e) ∙ each 0 (omega arith) ∙ ap g (let e : from + 0 ≡ from = omega arith in e) in
-    let left : length (drop f bytes) ≡ k * f = length-drop f bytes ∙ ap (λ j. j - f) size ∙ (let e : suc k * f - f ≡ k * f = grind arith in e) in
-    let rest : drop f bytes ≡ flat_map g (range_with_len (from + 1) k) = joined_pieces k f (from + 1) g (drop f bytes) left (λ i below.
-    ap (take f) (drop-drop (i * f) f bytes ∙ ap (λ j. drop j bytes) (let e : f + i * f ≡ suc i * f = omega arith in e))
-    ∙ each (suc i) (omega (arith, below))
-    ∙ ap g (let e : from + suc i ≡ from + 1 + i = omega arith in e)) in
-    sym (take-append-drop f bytes) ∙ ap₂ (λ (a b : List ℕ). a ++ b) first rest
 
 bytes_joined : (g : ℕ → List ℕ) (from k : ℕ) → ((i : ℕ) → i < k → AreBytes (g (from + i))) → AreBytes (flat_map g (range_with_len from k))
 bytes_joined g from zero each = tt

@@ -10,7 +10,7 @@ use Rattle.array_model.specs.Drives.{Place, bytes_at, records_at, head_at, is_of
 use Rattle.array_model.specs.Reading.{Carrier, carriers_of, IsPrefixAlike, common_of, agreed, fragment_on}
 use Rattle.array_model.specs.Kept.{HaveOneList, HaveOnePayload, HavePayloads}
 use Rattle.array_model.proofs.SameZones.{all-map, map-same}
-use Rattle.set_writer.specs.Members.{array_of}
+use Rattle.set_table.specs.Table.{array_of}
 use Rattle.set_writer.specs.ImageLaws.{places_of, cut_back}
 use Rattle.set_writer.specs.ReadLaws.{CarriesOver, OthersCarryOver}
 

@@ -15,7 +15,8 @@ use Rattle.set_table.specs.declared.zone_use.ZoneUse.TheVariants as uses
 use Rattle.set_table.specs.Table.{Table, use_at, is_live, Loses}
 use Rattle.set_table.specs.Table as table
 use Rattle.set_writer.specs.Entry.{Entry, entries_bytes}
-use Rattle.set_writer.specs.Members.{array_of, is_member, HasZone}
+use Rattle.set_writer.specs.Members.{is_member, HasZone}
+use Rattle.set_table.specs.Table.{array_of}
 use Rattle.set_writer.specs.Writer.{Writer, array_by, written, closed, digest, blocks_in, foot_at, foot_bytes, zone_bytes, CanDigest, Wrote, Fits}
 use Rattle.set_writer.specs.Laws.{markers_at, records_of}
 use Rattle.set_writer.specs.Calls.{closing_bytes, with_digest, with_closing, HasAll, FailedBy}

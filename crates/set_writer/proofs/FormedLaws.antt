@@ -13,7 +13,8 @@ use Rattle.set_table.specs.Table.{Table, zones_of, use_at, put_use, is_live, has
 use Rattle.set_table.proofs.TableLaws.{put_there}
 use Rattle.set_table.proofs.UseLaws.{each_use}
 use Rattle.set_table.proofs.FormLaws.{lowest_use}
-use Rattle.set_writer.specs.Members.{HoldBlocks, array_of}
+use Rattle.set_writer.specs.Members.{HoldBlocks}
+use Rattle.set_table.specs.Table.{array_of}
 use Rattle.set_writer.specs.Writer.{EmptyHold}
 
 -- the zone was empty and carries the set, or is used as it was

@@ -13,7 +13,7 @@ use Rattle.array_model.proofs.SameZones.{all-map}
 use Rattle.set_table.specs.declared.zone_use.ZoneUse.TheVariants as uses
 use Rattle.set_table.specs.Table.{Table, use_at}
 use Rattle.set_writer.specs.Entry.{Entry, at_index}
-use Rattle.set_writer.specs.Members.{array_of}
+use Rattle.set_table.specs.Table.{array_of}
 use Rattle.set_writer.specs.Laws.{markers_at}
 use Rattle.set_writer.specs.ImageLaws.{SetBytes, AreSetBytes, View, places_of, carriers_in, IsCut, HaveFirst}
 use Rattle.set_writer.specs.KeptLaws.{IsShown, IsCarriedOnce}

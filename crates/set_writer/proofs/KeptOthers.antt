@@ -12,7 +12,8 @@ use Rattle.marker_format.specs.Zone.{Array}
 use Rattle.set_table.specs.Table.{Table}
 use Rattle.set_table.specs.Table as table
 use Rattle.set_writer.specs.Entry.{Entry, entry_for, entry_bytes, entries_bytes}
-use Rattle.set_writer.specs.Members.{array_of, of_members, grown_by}
+use Rattle.set_writer.specs.Members.{of_members, grown_by}
+use Rattle.set_table.specs.Table.{array_of}
 use Rattle.set_writer.specs.Writer.{Writer, behind, closed, opening}
 use Rattle.set_writer.specs.Calls.{closing_bytes, with_closing, with_opening, closes_first}
 use Rattle.set_writer.specs.ImageLaws.{bytes_by, bytes_opened, View, begins_with, IsLeftSince, Appends, IsFlushed, IsOpened, IsLeftNew, IsClosing, IsFollowed, IsLeftBetween, KeepsSets, IsOne, IsEither}

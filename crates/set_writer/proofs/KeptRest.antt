@@ -18,7 +18,8 @@ use Rattle.set_table.specs.declared.zone_use.ZoneUse.TheVariants as uses
 use Rattle.set_table.specs.Table.{Table, use_at, HangsTogether, Forms}
 use Rattle.set_table.specs.Table as table
 use Rattle.set_writer.specs.Entry.{Entry, entry_for, entry_bytes, entries_bytes}
-use Rattle.set_writer.specs.Members.{array_of, of_members, grown_by, is_member, Leads}
+use Rattle.set_writer.specs.Members.{of_members, grown_by, is_member, Leads}
+use Rattle.set_table.specs.Table.{array_of}
 use Rattle.set_writer.specs.Writer.{Writer, opening}
 use Rattle.set_writer.specs.Calls.{closing_bytes, with_closing, with_opening, with_end, closes_first}
 use Rattle.set_writer.specs.ImageLaws.{Appends, IsFlushed, IsOpened, IsClosing, IsFollowed, IsOne, IsEither}

@@ -18,7 +18,8 @@ use Rattle.set_table.specs.declared.members.Member.{Member}
 use Rattle.set_table.specs.Table.{Table, use_at, is_live, Forms}
 use Rattle.set_table.specs.Table as table
 use Rattle.set_writer.specs.Entry.{Entry, entry_for, entry_bytes, entries_bytes}
-use Rattle.set_writer.specs.Members.{array_of, of_members, grown_by, is_member, Grows}
+use Rattle.set_writer.specs.Members.{of_members, grown_by, is_member, Grows}
+use Rattle.set_table.specs.Table.{array_of}
 use Rattle.set_writer.specs.Writer.{Writer, behind, closed, opening}
 use Rattle.set_writer.specs.Calls.{closing_bytes}
 use Rattle.set_writer.specs.ImageLaws.{SetBytes, bytes_by, bytes_opened, AreSetBytes, HoldBytes, AreLive, begins_with, IsMember, IsAlone, Appends, IsNew, IsOpened, IsClosing, KeepsSets, IsOne, IsFlushed}

@@ -14,7 +14,8 @@ use Rattle.set_table.specs.declared.members.Member.{Member}
 use Rattle.set_table.specs.Table.{Table, use_at, is_live, Forms}
 use Rattle.set_table.specs.Table as table
 use Rattle.set_writer.specs.Entry.{Entry, entry_for, entry_bytes, entries_bytes}
-use Rattle.set_writer.specs.Members.{array_of, of_members, grown_by}
+use Rattle.set_writer.specs.Members.{of_members, grown_by}
+use Rattle.set_table.specs.Table.{array_of}
 use Rattle.set_writer.specs.Writer.{Writer, array_by, behind, closed, opening, zone_bytes, Wrote, EmptyHold}
 use Rattle.set_writer.specs.Calls.{closing_bytes, with_closing, with_opening, with_end, closes_first, ended}
 use Rattle.set_writer.specs.ImageLaws.{SetBytes, bytes_by, bytes_opened, HoldBytes, View, AreLive, begins_with, IsAlone, IsLeftSince, Appends, IsFlushed, IsNew, MayOpen, IsOpened, IsLeftNew, IsClosing, IsFollowed, IsLeftBetween}

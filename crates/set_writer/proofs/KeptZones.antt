@@ -12,7 +12,7 @@ use Rattle.array_model.proofs.SameZones.{all-append}
 use Rattle.set_table.specs.Table.{Table}
 use Rattle.set_writer.specs.declared.first.First.TheVariants.{IsReady}
 use Rattle.set_writer.specs.Entry.{Entry, entry_bytes, entries_bytes}
-use Rattle.set_writer.specs.Members.{array_of}
+use Rattle.set_table.specs.Table.{array_of}
 use Rattle.set_writer.specs.Writer.{Writer, array_by, written, parts_of, first_record, cuts_from, opening, digest_record, first_digests, digest, foot_at, foot_bytes, blocks_in, zone_bytes, CanDigest, AreRecordsFrom, Wrote}
 use Rattle.set_writer.specs.Laws.{markers_at, records_of}
 use Rattle.set_writer.specs.ImageLaws.{HasFirst, bytes_by, bytes_opened, MayOpen}

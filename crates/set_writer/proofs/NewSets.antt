@@ -9,7 +9,7 @@ use Rattle.zone_bay.specs.Contents.{Contents}
 use Rattle.array_model.specs.Drives.{Place, bytes_at, first_of, head_at}
 use Rattle.array_model.specs.ReadingLaws.{is_of_set}
 use Rattle.array_model.proofs.Records.{contains_from_among}
-use Rattle.set_writer.specs.Members.{array_of}
+use Rattle.set_table.specs.Table.{array_of}
 use Rattle.set_writer.specs.ImageLaws.{View, places_of, begins_with, IsOfAnother, is_half_rebuilt, ShowsNone, NothingIsNew, NewByZone, NewIsAlone, AloneByZone}
 use Rattle.set_writer.specs.ReadLaws.{UnreadIsNew}
 use Rattle.set_writer.proofs.ReadLists.{find_among, head_is_read}

@@ -19,7 +19,8 @@ use Rattle.set_table.specs.Table.{Table, zones_of, use_at, put_use, is_live, emp
 use Rattle.set_table.specs.Table as table
 use Rattle.set_table.proofs.UseLaws.{each_use}
 use Rattle.set_writer.specs.Entry.{Entry, entries_bytes}
-use Rattle.set_writer.specs.Members.{array_of, of_members, grown_by, is_member}
+use Rattle.set_writer.specs.Members.{of_members, grown_by, is_member}
+use Rattle.set_table.specs.Table.{array_of}
 use Rattle.set_writer.specs.Writer.{Writer, array_by, opening, zone_bytes, Wrote, EmptyHold}
 use Rattle.set_writer.specs.Laws.{markers_at, records_of}
 use Rattle.set_writer.specs.Calls.{with_opening}

@@ -11,7 +11,8 @@ use Rattle.set_table.specs.declared.members.Member.{Member}
 use Rattle.set_table.specs.Table.{Table, use_at, is_live, Forms}
 use Rattle.set_table.specs.Table as table
 use Rattle.set_writer.specs.Entry.{Entry, entries_bytes}
-use Rattle.set_writer.specs.Members.{array_of, of_members, more_at, grown_by, MembersFirm}
+use Rattle.set_writer.specs.Members.{of_members, more_at, grown_by, MembersFirm}
+use Rattle.set_table.specs.Table.{array_of}
 use Rattle.set_writer.specs.Writer.{Writer, array_by, closed, opening, zone_bytes, Wrote, EmptyHold}
 use Rattle.set_writer.specs.Calls.{with_closing, with_opening, with_end, closes_first, ended}
 use Rattle.set_writer.specs.ImageLaws.{SetBytes, bytes_by, bytes_opened, HoldBytes, AreLive, begins_with, IsAlone, AreFirm, AreWhole, IsNew, MayOpen, IsFollowed, KeepsSets, IsOne, IsEither}

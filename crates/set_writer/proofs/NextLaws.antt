@@ -17,10 +17,12 @@ use Rattle.set_table.specs.declared.zone_use.ZoneUse.TheVariants.{Empty, Taken, 
 use Rattle.set_table.specs.declared.members.Member.{Member}
 use Rattle.set_table.specs.Table.{Table, use_at, is_live, fragments_of, marks_of, with_empty_of, Forms, HangsTogether, Loses}
 use Rattle.set_writer.specs.Entry.{Entry, entries_bytes}
-use Rattle.set_writer.specs.Members.{of_members, more_at, grown_by, is_member, HasZone, Leads, AllReach, OthersStay, Grows, MembersFirm, HoldBlocks, array_of}
+use Rattle.set_writer.specs.Members.{of_members, more_at, grown_by, is_member, HasZone, Leads, AllReach, OthersStay, Grows, MembersFirm, HoldBlocks}
+use Rattle.set_table.specs.Table.{array_of}
 use Rattle.set_writer.specs.Writer.{Writer, array_by, begun, written, closed, opening, spare_of, EmptyHold, HoldsSet, Fits}
 use Rattle.set_writer.specs.Fit.{has_enough}
-use Rattle.set_writer.specs.Rounds.{Point, point_at, Rounds, InRounds}
+use Rattle.set_writer.specs.Rounds.{Rounds, InRounds}
+use Rattle.set_table.specs.Points.{Point, point_at}
 use Rattle.set_writer.specs.Calls.{closing_rounds, ending_rounds, FitsIn, FitsSome, Began, EndsBy, Ends, Follows, closes_first, closing_bytes, with_closing, with_opening, with_end, ended, HasAll, LeftEnding, FailedBy, StillFits, OldHolds, with_digest}
 use Rattle.set_writer.proofs.CarriedLaws.{enough_is_listed}
 use Rattle.set_writer.proofs.CloseLaws.{failed_by}

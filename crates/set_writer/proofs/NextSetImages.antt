@@ -13,7 +13,8 @@ use Rattle.set_table.specs.declared.zone_use.ZoneUse.TheVariants as uses
 use Rattle.set_table.specs.Table.{Table, use_at, is_live}
 use Rattle.set_table.specs.Table as table
 use Rattle.set_writer.specs.Entry.{Entry, entries_bytes}
-use Rattle.set_writer.specs.Members.{array_of, of_members, more_at, grown_by, is_member}
+use Rattle.set_writer.specs.Members.{of_members, more_at, grown_by, is_member}
+use Rattle.set_table.specs.Table.{array_of}
 use Rattle.set_writer.specs.Writer.{Writer, closed, opening, digest, foot_bytes, zone_bytes, Wrote}
 use Rattle.set_writer.specs.Fit.{has_enough}
 use Rattle.set_writer.specs.Calls.{closing_bytes, with_digest, with_closing, with_opening, with_end, closes_first, ended, HasAll, LeftEnding}

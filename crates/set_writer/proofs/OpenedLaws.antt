@@ -9,7 +9,8 @@ use Rattle.set_table.specs.declared.members.Member.{Member}
 use Rattle.set_table.specs.declared.zone_use.ZoneUse.TheVariants.{Carrier}
 use Rattle.set_table.specs.Table.{Table, use_at, is_live, fragments_of, marks_of, Forms}
 use Rattle.set_writer.specs.Entry.{Entry, entries_bytes}
-use Rattle.set_writer.specs.Members.{of_members, grown_by, OthersStay, Grows, MembersFirm, HoldBlocks, array_of}
+use Rattle.set_writer.specs.Members.{of_members, grown_by, OthersStay, Grows, MembersFirm, HoldBlocks}
+use Rattle.set_table.specs.Table.{array_of}
 use Rattle.set_writer.specs.Writer.{Writer, array_by, begun, written, closed, opening, AreRecordsFrom, Wrote, EmptyHold, Fits}
 use Rattle.set_writer.specs.Rounds.{InRounds}
 use Rattle.set_writer.specs.Calls.{FitsIn, Began, Opens}

@@ -21,7 +21,8 @@ use Rattle.set_table.specs.Table.{Table, use_at, is_live, Forms}
 use Rattle.set_table.specs.Table as table
 use Rattle.set_writer.specs.declared.first.First.TheVariants.{Opens, Keeps, IsReady}
 use Rattle.set_writer.specs.Entry.{Entry, at_index, entries_bytes}
-use Rattle.set_writer.specs.Members.{array_of, of_members, grown_by, HoldBlocks}
+use Rattle.set_writer.specs.Members.{of_members, grown_by, HoldBlocks}
+use Rattle.set_table.specs.Table.{array_of}
 use Rattle.set_writer.specs.Writer.{first_record, cuts_from, headed, opening, AreRecordsFrom}
 use Rattle.set_writer.specs.Laws.{markers_at}
 use Rattle.set_writer.specs.Calls.{IsCuts}

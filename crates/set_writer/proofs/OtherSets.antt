@@ -17,7 +17,8 @@ use Rattle.set_table.specs.declared.zone_use.ZoneUse.TheVariants as uses
 use Rattle.set_table.specs.Table.{Table, use_at}
 use Rattle.set_table.specs.Table as table
 use Rattle.set_writer.specs.Entry.{Entry}
-use Rattle.set_writer.specs.Members.{array_of, of_members, more_at, grown_by, is_member}
+use Rattle.set_writer.specs.Members.{of_members, more_at, grown_by, is_member}
+use Rattle.set_table.specs.Table.{array_of}
 use Rattle.set_writer.specs.Laws.{markers_at}
 use Rattle.set_writer.specs.ImageLaws.{SetBytes, FirstIsOf, AreSetBytes, HoldBytes, View, places_of, cut_back, others_of, OthersSay}
 use Rattle.set_writer.proofs.MemberCalls.{more_live, more_lost, live_or_lost}

@@ -8,12 +8,14 @@ use Rattle.marker_format.specs.declared.marker.Marker.{Marker}
 use Rattle.marker_format.specs.Zone.{Array, blocks_of}
 use Rattle.set_table.specs.Table.{Table, fragments_of}
 use Rattle.set_writer.specs.Entry.{Entry, entry_bytes, entries_bytes, IsEntry}
-use Rattle.set_writer.specs.Members.{Spreads, Grows, HoldBlocks, AllHaveRoom, array_of}
+use Rattle.set_writer.specs.Members.{Spreads, Grows, HoldBlocks, AllHaveRoom}
+use Rattle.set_table.specs.Table.{array_of}
 use Rattle.set_writer.specs.Writer.{Writer, array_by, parts_of, part_of, digest_marker, digest_record, first_digests, blocks_in}
 use Rattle.set_writer.specs.Calls.{IsOf}
 use Rattle.set_writer.specs.Writer.{CanDigest}
 use Rattle.set_writer.specs.Fit.{live_of}
-use Rattle.set_writer.specs.Rounds.{point_at, InRounds}
+use Rattle.set_writer.specs.Rounds.{InRounds}
+use Rattle.set_table.specs.Points.{point_at}
 use Rattle.set_writer.proofs.EntryLaws.{length-entry_bytes}
 use Rattle.set_writer.proofs.FitLaws.{blocks_most, room_for, hold_more}
 use Rattle.set_writer.proofs.WroteLaws.{entries-more}

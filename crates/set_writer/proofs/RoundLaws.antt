@@ -17,7 +17,8 @@ use Rattle.set_table.proofs.Counts.{count, count_more, any_somewhere}
 use Rattle.set_table.proofs.MissingLaws.{carried_by}
 use Rattle.set_writer.specs.Members.{Leads}
 use Rattle.set_writer.specs.Fit.{live_of}
-use Rattle.set_writer.specs.Rounds.{Point, point_at, Round, EachRound, last_point, Rounds, InRounds}
+use Rattle.set_writer.specs.Rounds.{Round, EachRound, Rounds, InRounds}
+use Rattle.set_table.specs.Points.{Point, point_at, last_point}
 
 -- ---- a call for each member that is live
 

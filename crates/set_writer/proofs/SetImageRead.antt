@@ -16,7 +16,7 @@ use Rattle.array_model.proofs.SameZones.{all-map, all-take}
 use Rattle.array_model.proofs.Settled.{whole_stand}
 use Rattle.set_table.specs.Table.{Table}
 use Rattle.set_writer.specs.Entry.{Entry, at_index, entries_bytes, IsEntry}
-use Rattle.set_writer.specs.Members.{array_of}
+use Rattle.set_table.specs.Table.{array_of}
 use Rattle.set_writer.specs.Writer.{opening, blocks_in}
 use Rattle.set_writer.specs.Laws.{markers_at}
 use Rattle.set_writer.specs.ImageLaws.{SetBytes, bytes_opened, AreSetBytes, View, places_of, carriers_in, AgreeOn, IsCut, MayOpen}

@@ -18,7 +18,7 @@ use Rattle.set_table.specs.declared.zone_use.ZoneUse.TheVariants as uses
 use Rattle.set_table.specs.Table.{Table, use_at}
 use Rattle.set_table.specs.Table as table
 use Rattle.set_writer.specs.Entry.{Entry, at_index}
-use Rattle.set_writer.specs.Members.{array_of}
+use Rattle.set_table.specs.Table.{array_of}
 use Rattle.set_writer.specs.Writer.{blocks_in}
 use Rattle.set_writer.specs.Laws.{markers_at}
 use Rattle.set_writer.specs.ImageLaws.{HasFirst, SetBytes, FirstIsOf, AreSetBytes, HoldBytes, View, places_of, carriers_in, IsCrashView, AgreeOn, IsCut, AreFirm, IsSeen, HaveFirst}

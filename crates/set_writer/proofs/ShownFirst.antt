@@ -9,7 +9,8 @@ use Rattle.array_model.specs.Drives.{is_among}
 use Rattle.set_table.specs.declared.zone_use.ZoneUse.TheVariants as uses
 use Rattle.set_table.specs.Table.{Table, use_at}
 use Rattle.set_table.specs.Table as table
-use Rattle.set_writer.specs.Members.{array_of, of_members, is_member}
+use Rattle.set_writer.specs.Members.{of_members, is_member}
+use Rattle.set_table.specs.Table.{array_of}
 use Rattle.set_writer.specs.ImageLaws.{SetBytes, AreSetBytes, HoldBytes, View, begins_with, IsMember, IsAlone, HaveFirst}
 use Rattle.set_writer.specs.KeptLaws.{IsShown}
 use Rattle.set_writer.specs.StandLaws.{ShownHasFirst}

@@ -11,7 +11,7 @@ use Rattle.marker_format.specs.Zone.{Array}
 use Rattle.set_table.specs.declared.zone_use.ZoneUse.TheVariants as uses
 use Rattle.set_table.specs.Table.{Table}
 use Rattle.set_writer.specs.Entry.{Entry, entry_for, entries_bytes, HasBytes}
-use Rattle.set_writer.specs.Members.{array_of}
+use Rattle.set_table.specs.Table.{array_of}
 use Rattle.set_writer.specs.Writer.{Writer, array_by, behind, opening, digest, closed, Wrote, Fits}
 use Rattle.set_writer.specs.Laws.{records_of}
 use Rattle.set_writer.specs.Calls.{FitsIn, closes_first, ended}

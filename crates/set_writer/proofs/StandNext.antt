@@ -15,7 +15,7 @@ use Rattle.set_table.specs.declared.zone_use.ZoneUse.TheVariants as uses
 use Rattle.set_table.specs.Table.{Table, use_at, Loses}
 use Rattle.set_table.specs.Table as table
 use Rattle.set_writer.specs.Entry.{Entry}
-use Rattle.set_writer.specs.Members.{array_of}
+use Rattle.set_table.specs.Table.{array_of}
 use Rattle.set_writer.specs.Writer.{Writer, closed, digest}
 use Rattle.set_writer.specs.Calls.{closes_first, ended, FailedBy}
 use Rattle.set_writer.specs.ImageLaws.{bytes_by, bytes_opened, HoldBytes, View, places_of, AreLive, begins_with, AreWhole, HaveFirst, IsFollowed, IsLeftBetween, IsAlone}

@@ -15,7 +15,8 @@ use Rattle.set_table.specs.declared.zone_use.ZoneUse.TheVariants as uses
 use Rattle.set_table.specs.Table.{Table, use_at, is_live}
 use Rattle.set_table.specs.Table as table
 use Rattle.set_writer.specs.Entry.{entries_bytes}
-use Rattle.set_writer.specs.Members.{array_of, of_members, grown_by}
+use Rattle.set_writer.specs.Members.{of_members, grown_by}
+use Rattle.set_table.specs.Table.{array_of}
 use Rattle.set_writer.specs.Writer.{opening}
 use Rattle.set_writer.specs.ImageLaws.{bytes_opened, HoldBytes, View, carriers_in, AreLive, IsCut, AreFirm, AreWhole, HaveFirst, MayOpen, IsOpened, IsLeftNew}
 use Rattle.set_writer.specs.PayloadLaws.{item_of}

@@ -9,7 +9,7 @@ use Rattle.set_table.specs.declared.zone_use.ZoneUse.TheVariants as uses
 use Rattle.set_table.specs.Table.{Table, HangsTogether}
 use Rattle.set_table.specs.Table as table
 use Rattle.set_writer.specs.Entry.{Entry}
-use Rattle.set_writer.specs.Members.{array_of}
+use Rattle.set_table.specs.Table.{array_of}
 use Rattle.set_writer.specs.Writer.{blocks_in}
 use Rattle.set_writer.specs.ImageLaws.{SetBytes, View, places_of, IsCut, AreFirm, HaveFirst}
 use Rattle.set_writer.specs.SetReadLaws.{read_in, carried_on}

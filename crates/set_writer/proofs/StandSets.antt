@@ -17,7 +17,7 @@ use Rattle.array_model.specs.Enough.{is_settled}
 use Rattle.array_model.proofs.SameZones.{all-map}
 use Rattle.set_table.specs.Table.{Table}
 use Rattle.set_writer.specs.Entry.{Entry}
-use Rattle.set_writer.specs.Members.{array_of}
+use Rattle.set_table.specs.Table.{array_of}
 use Rattle.set_writer.specs.Writer.{Writer, array_by, written, opening, digest, zone_bytes}
 use Rattle.set_writer.specs.Laws.{records_of}
 use Rattle.set_writer.specs.ImageLaws.{bytes_by, View, carriers_in, AgreeOn, IsCut, AreFirm, AreWhole, HaveFirst}

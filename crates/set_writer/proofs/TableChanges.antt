@@ -14,7 +14,7 @@ use Rattle.set_table.specs.Table as table
 use Rattle.set_table.proofs.UseLaws.{each_use, is_carrier_of}
 use Rattle.set_table.proofs.ForgetLaws.{use_without}
 use Rattle.set_writer.specs.Entry.{Entry}
-use Rattle.set_writer.specs.Members.{array_of}
+use Rattle.set_table.specs.Table.{array_of}
 use Rattle.set_writer.specs.Writer.{Fits}
 use Rattle.set_writer.specs.ImageLaws.{begins_with}
 use Rattle.set_writer.specs.TableLaws.{KeepsEmpty, TableKeepsOf, TableKeepsHeld, TableKeepsFirm, TableKeepsWhole, TableKeepsAlone, TableKeepsNew, TableKeepsFits, TableKeepsEmpty, TableKeepsFitsIn, TableKeepsFitsSome, KeepsSet, MarkKeepsSet, RoomKeepsSet, LossKeepsSet, LossesKeepSet, TakeKeepsSet, AddKeepsSet, ReleaseKeepsSet}

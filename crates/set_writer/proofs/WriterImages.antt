@@ -20,7 +20,8 @@ use Rattle.set_table.specs.declared.zone_use.ZoneUse.TheVariants as uses
 use Rattle.set_table.specs.Table.{Table, use_at, is_live}
 use Rattle.set_table.specs.Table as table
 use Rattle.set_writer.specs.Entry.{Entry, entry_for, entry_bytes}
-use Rattle.set_writer.specs.Members.{array_of, of_members, more_at, grown_by, is_member, HasZone, Leads, Grows, Flushes, MembersFirm}
+use Rattle.set_writer.specs.Members.{of_members, more_at, grown_by, is_member, HasZone, Leads, Grows, Flushes, MembersFirm}
+use Rattle.set_table.specs.Table.{array_of}
 use Rattle.set_writer.specs.Writer.{Writer, array_by, behind, closed, written, digest, blocks_in, zone_bytes, IsRecordAt, AreRecordsFrom, Wrote, Fits}
 use Rattle.set_writer.specs.Calls.{IsOf}
 use Rattle.set_writer.specs.Laws.{records_of}

@@ -16,7 +16,8 @@ use Rattle.set_table.specs.declared.zone_use.ZoneUse.TheVariants.{Empty, Carrier
 use Rattle.set_table.specs.Table.{Table, use_at, is_live, fragments_of}
 use Rattle.array_model.proofs.SameZones.{all-append}
 use Rattle.set_writer.specs.Entry.{Entry, entry_for, IsEntry, HasBytes, entry_bytes, entries_bytes}
-use Rattle.set_writer.specs.Members.{of_members, grown_by, Grows, HoldBlocks, array_of}
+use Rattle.set_writer.specs.Members.{of_members, grown_by, Grows, HoldBlocks}
+use Rattle.set_table.specs.Table.{array_of}
 use Rattle.set_writer.specs.Writer.{Writer, array_by, begun, behind, written, closed, zone_bytes, blocks_in, IsRecordAt, AreRecordsFrom, Wrote, EmptyHold, Fits, is_appended, IsAppended}
 use Rattle.set_writer.specs.Calls.{FitsIn}
 use Rattle.set_writer.proofs.MemberCalls.{more_live}

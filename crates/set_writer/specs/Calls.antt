@@ -13,11 +13,13 @@ use Rattle.set_writer.specs.declared.refusal.WriteRefusal.{WriteRefusal}
 use Rattle.set_writer.specs.declared.refusal.WriteRefusal.TheVariants.{Memory, TooFew, NoFit, Short}
 use Rattle.set_writer.specs.declared.open.TheConstants.{MOST_CUTS}
 use Rattle.set_writer.specs.Entry.{Entry, entries_bytes}
-use Rattle.set_writer.specs.Members.{array_of, of_members, grown_by, is_member, HasZone, Leads, AllReach, OthersStay, Grows, MembersFirm, HoldBlocks}
+use Rattle.set_writer.specs.Members.{of_members, grown_by, is_member, HasZone, Leads, AllReach, OthersStay, Grows, MembersFirm, HoldBlocks}
+use Rattle.set_table.specs.Table.{array_of}
 use Rattle.set_writer.specs.Writer.{Writer, array_by, written, opening, parts_of, digest, foot_bytes, closed, AreRecordsFrom, HoldsSet, Fits}
 use Rattle.set_writer.specs.Fit.{has_enough}
 use Rattle.set_writer.specs.Refusal.{IsShort, IsTooFew}
-use Rattle.set_writer.specs.Rounds.{Point, point_at, Rounds, InRounds}
+use Rattle.set_writer.specs.Rounds.{Rounds, InRounds}
+use Rattle.set_table.specs.Points.{Point, point_at}
 
 -- ---- what each call asks
 

@@ -8,7 +8,7 @@ use Rattle.marker_format.specs.declared.marker.Marker.{Marker}
 use Rattle.array_model.specs.Drives.{records_at}
 use Rattle.set_table.specs.Table.{Table, Loses}
 use Rattle.set_writer.specs.Entry.{Entry, entry_for}
-use Rattle.set_writer.specs.Members.{array_of}
+use Rattle.set_table.specs.Table.{array_of}
 use Rattle.set_writer.specs.Writer.{Writer, array_by, behind, closed, digest, blocks_in, zone_bytes, Wrote}
 use Rattle.set_writer.specs.Laws.{markers_at, records_of}
 use Rattle.set_writer.specs.Calls.{closes_first, FailedBy}

@@ -18,7 +18,8 @@ use Rattle.set_table.specs.declared.zone_use.ZoneUse.TheVariants as uses
 use Rattle.set_table.specs.Table.{Table, use_at, is_live, marks_of, HangsTogether}
 use Rattle.set_table.specs.Table as table
 use Rattle.set_writer.specs.Entry.{Entry, entry_for, entry_bytes, entries_bytes}
-use Rattle.set_writer.specs.Members.{array_of, of_members, grown_by, is_member, Spreads, Flushes, MembersFirm}
+use Rattle.set_writer.specs.Members.{of_members, grown_by, is_member, Spreads, Flushes, MembersFirm}
+use Rattle.set_table.specs.Table.{array_of}
 use Rattle.set_writer.specs.Writer.{Writer, array_by, behind, opening, digest, closed, blocks_in, CanDigest, zone_bytes, AreRecordsFrom, Wrote, EmptyHold, Fits, IsAppended, parts_of, first_digests}
 use Rattle.set_writer.specs.Laws.{markers_at, records_of}
 use Rattle.set_writer.specs.Calls.{IsOf, FitsIn, IsCuts, Opens, Closes, closes_first, with_end, ended, Follows}

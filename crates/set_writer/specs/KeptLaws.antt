@@ -12,7 +12,7 @@ use Rattle.set_table.specs.declared.zone_use.ZoneUse.TheVariants as uses
 use Rattle.set_table.specs.Table.{Table, use_at, HangsTogether}
 use Rattle.set_table.specs.Table as table
 use Rattle.set_writer.specs.Entry.{Entry, entry_for}
-use Rattle.set_writer.specs.Members.{array_of}
+use Rattle.set_table.specs.Table.{array_of}
 use Rattle.set_writer.specs.Writer.{Writer, CanDigest, Wrote, behind, closed}
 use Rattle.set_writer.specs.Calls.{ended}
 use Rattle.set_writer.specs.ImageLaws.{SetBytes, AreSetBytes, bytes_by, bytes_opened, HoldBytes, View, IsAlone, places_of, carriers_in, HaveFirst, IsLeftSince, Appends, IsFlushed, MayOpen, IsOpened, IsLeftNew, IsClosing, IsFollowed, IsLeftBetween, IsOne, IsEither}

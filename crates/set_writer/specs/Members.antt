@@ -41,10 +41,6 @@ HasRoom t set index bytes held = (d z : ℕ) → is_live t d ≡ true → use_at
 abbrev pub AllHaveRoom : Table → ℕ → ℕ → Contents → Type 0
 AllHaveRoom t set bytes held = (d z index : ℕ) → index < fragments_of t → is_live t d ≡ true → use_at t.zones d z ≡ Carrier set index → length (held d z) + bytes ≤ BLOCK_BYTES * t.geometry.blocks
 
--- what a table's labels say
-abbrev pub array_of : Table → Array
-array_of t = record { geometry = t.geometry; id = t.array }
-
 -- payloads are made into the geometry's fragments
 abbrev pub IsOfCode : Geometry → ℕ → ℕ → Type 0
 IsOfCode g k p = (k ≡ g.k) × (p ≡ g.p)

@@ -8,7 +8,7 @@ use Rattle.array_model.specs.ReadingLaws.{is_of_set}
 use Rattle.array_model.specs.Kept.{HaveOneList, HavePayloads}
 use Rattle.array_model.specs.Sets.{ReadSet}
 use Rattle.set_table.specs.Table.{Table}
-use Rattle.set_writer.specs.Members.{array_of}
+use Rattle.set_table.specs.Table.{array_of}
 use Rattle.set_writer.specs.ImageLaws.{View, places_of, cut_back, OthersSay, IsNew, is_half_rebuilt}
 
 -- ---- the carriers of the other sets

@@ -3,16 +3,8 @@ use Rattle.std.specs.Prelude.{◌≡◌, ℕ, ◌+◌, ◌<◌, ◌≤◌, true,
 use Rattle.zone_bay.specs.Outside.{Rose}
 use Rattle.zone_bay.specs.Bay.{BayState}
 use Rattle.set_table.specs.Table.{Table, is_live, Loses}
+use Rattle.set_table.specs.Points.{Point, point_at, last_point}
 use Rattle.set_writer.specs.Fit.{live_of}
-
--- a point between two calls: the table, how many calls were made so far, and how often each device has failed
-pub record Point : Type 0 where
-  pub table : Table
-  pub moment : ℕ
-  pub faults : ℕ → ℕ
-
-abbrev pub point_at : Table → BayState → Point
-point_at t bay = record { table = t; moment = bay.moment; faults = bay.faults }
 
 -- One round: no more than a call for each member that was live before it. A device that was lost in it failed in it, and no other
 -- device did. Of the table nothing else changed.
@@ -30,11 +22,6 @@ pub record Round (set : ℕ) (failed : ℕ → ℕ → Type 0) (before after : P
 abbrev pub EachRound : ℕ → (ℕ → ℕ → Type 0) → Point → List Point → Type 0
 EachRound set failed at [] = Unit {0}
 EachRound set failed at (next ∷ points) = Round set failed at next × EachRound set failed next points
-
--- the last of these points
-abbrev pub last_point : Point → List Point → Point
-last_point at [] = at
-last_point at (next ∷ points) = last_point next points
 
 -- So many rounds, one behind the other. A member that was lost in one isn't called in a later one: that counts the members that are
 -- live before it.

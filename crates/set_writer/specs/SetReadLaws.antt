@@ -14,7 +14,7 @@ use Rattle.array_model.specs.Reading as model
 use Rattle.set_table.specs.Zones.{carries}
 use Rattle.set_table.specs.Table.{Table, zones_of, is_live, drives_of, fragments_of, HangsTogether}
 use Rattle.set_writer.specs.Entry.{Entry, entries_bytes, HasBytes}
-use Rattle.set_writer.specs.Members.{array_of}
+use Rattle.set_table.specs.Table.{array_of}
 use Rattle.set_writer.specs.Writer.{Writer, array_by, opening, Wrote, Fits}
 use Rattle.set_writer.specs.Fit.{live_of}
 use Rattle.set_writer.specs.Calls.{IsOf, FitsIn}

@@ -14,7 +14,8 @@ use Rattle.array_model.specs.Sets.{ReadSet, stands, least_kept, valid, kept_by}
 use Rattle.array_model.specs.Enough.{is_settled}
 use Rattle.set_table.specs.Table.{Table, HangsTogether, Loses}
 use Rattle.set_writer.specs.Entry.{Entry, entry_for, HasBytes}
-use Rattle.set_writer.specs.Members.{array_of, Flushes, MembersFirm}
+use Rattle.set_writer.specs.Members.{Flushes, MembersFirm}
+use Rattle.set_table.specs.Table.{array_of}
 use Rattle.set_writer.specs.Writer.{Writer, array_by, behind, opening, digest, closed, Wrote, Fits}
 use Rattle.set_writer.specs.Laws.{records_of}
 use Rattle.set_writer.specs.Calls.{IsOf, FitsIn, IsCuts, closes_first, ended, FailedBy}

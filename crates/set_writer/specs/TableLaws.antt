@@ -7,7 +7,7 @@ use Rattle.set_table.specs.declared.zone_use.ZoneUse.TheVariants as uses
 use Rattle.set_table.specs.declared.members.Member.{Member}
 use Rattle.set_table.specs.Table.{Table, use_at, put_use, taken, is_live, Forms, Adds, KeepsCarried}
 use Rattle.set_writer.specs.Entry.{Entry}
-use Rattle.set_writer.specs.Members.{array_of}
+use Rattle.set_table.specs.Table.{array_of}
 use Rattle.set_writer.specs.Writer.{Writer, written, EmptyHold, Fits}
 use Rattle.set_writer.specs.Calls.{IsOf, FitsIn, FitsSome}
 use Rattle.set_writer.specs.ImageLaws.{SetBytes, bytes_by, HoldBytes, AreLive, IsAlone, AreFirm, AreWhole, IsNew}

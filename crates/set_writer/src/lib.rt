@@ -49,6 +49,3 @@ pub use tables::{
     changes_keep_sets, room_changes_nothing, table_changes_keep, written_sets_are_open,
 };
 pub use writer::SetWriter;
-
-#[cfg(test)]
-mod tests;

@@ -9,7 +9,8 @@ ghost use Rattle.marker_format.specs.Zone.{blocks_of};
 ghost use Rattle.gf_field.specs.Field.{AreBytes};
 ghost use Rattle.set_writer.specs.Entry.{at_index, entry_bytes, IsEntry};
 ghost use Rattle.set_writer.specs.Body.{payload_of, entry_of, IsBody};
-ghost use Rattle.set_writer.specs.Members.{HasRoom, AllHaveRoom, IsOfCode, array_of, of_one, SpreadsBy, Spreads, FlushesBy};
+ghost use Rattle.set_writer.specs.Members.{HasRoom, AllHaveRoom, IsOfCode, of_one, SpreadsBy, Spreads, FlushesBy};
+ghost use Rattle.set_table.specs.Table.{array_of};
 
 use crate::body::Body;
 use crate::members::append_to;

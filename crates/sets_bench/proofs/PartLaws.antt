@@ -17,7 +17,8 @@ use Rattle.marker_format.specs.Zone.{Array, belongs}
 use Rattle.marker_format.proofs.MarkerRules.{Widths, IsMarker-from}
 use Rattle.set_table.specs.Table.{Table}
 use Rattle.set_writer.specs.Entry.{Entry, at_index}
-use Rattle.set_writer.specs.Members.{array_of, Spreads}
+use Rattle.set_writer.specs.Members.{Spreads}
+use Rattle.set_table.specs.Table.{array_of}
 use Rattle.set_writer.specs.Writer.{Writer, array_by, behind, written, Fits, is_appended, IsAppended}
 use Rattle.set_writer.specs.Calls.{FitsIn, IsOf, Opens}
 use Rattle.set_writer.proofs.BeganLaws.{of_now}

@@ -1,7 +1,7 @@
 //! Parts that are appended to a set.
 ghost use Rattle.std.specs.Prelude.{◌≡◌, ◌≤◌, true, IfSome};
 ghost use Rattle.marker_format.proofs.MarkerRules.{Widths};
-ghost use Rattle.set_writer.specs.Members.{array_of};
+ghost use Rattle.set_table.specs.Table.{array_of};
 ghost use Rattle.set_writer.specs.Writer.{array_by, IsAppended};
 ghost use Rattle.sets_bench.specs.Ready.{IsReady, HoldNothing, IsOurs, part_marker};
 

@@ -87,26 +87,3 @@ impl Sink for MemorySink {
         Ok(count)
     }
 }
-
-#[cfg(test)]
-mod tests {
-    use super::*;
-    use std::test::Fail;
-
-    #[test]
-    fn puts_some_at_once(rt: HostRuntime) -> Result<(), Fail> {
-        let mut sink = MemorySink::new(rt.alloc(), 3);
-        sink.fail_at(&[2])?;
-        let puts: [(&[u8], Option<usize>, &[u8]); 4] = [
-            (b"abcd", Some(3), b"abc"),
-            (b"d", None, b"abc"),
-            (b"", Some(0), b"abc"),
-            (b"d", Some(1), b"abcd"),
-        ];
-        for (bytes, count, held) in puts {
-            assert_eq!(rt; sink.put(bytes).ok(), count);
-            assert_eq!(rt; sink.held(), held);
-        }
-        Ok(())
-    }
-}

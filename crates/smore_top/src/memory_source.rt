@@ -97,34 +97,3 @@ impl Source for MemorySource {
         Ok(count)
     }
 }
-
-#[cfg(test)]
-mod tests {
-    use super::*;
-    use std::test::Fail;
-
-    #[test]
-    fn takes_piece_by_piece(rt: HostRuntime) -> Result<(), Fail> {
-        let mut pieces = Vec::new(rt.alloc());
-        pieces.push(Vec::from_slice(rt.alloc(), b"abc")?)?;
-        pieces.push(Vec::from_slice(rt.alloc(), b"de")?)?;
-        let mut source = MemorySource::new(rt.alloc(), pieces);
-        source.fail_at(&[2])?;
-        let takes: [(Option<usize>, &[u8]); 6] = [
-            (Some(2), b"ab"),
-            (None, b""),
-            (Some(1), b"c"),
-            (Some(2), b"de"),
-            (Some(0), b""),
-            (Some(0), b""),
-        ];
-        for (count, bytes) in takes {
-            let mut out = [0; 2];
-            let taken = source.take(&mut out).ok();
-            assert_eq!(rt; taken, count);
-            let taken = taken.unwrap_or(0).min(2);
-            assert_eq!(rt; &out[..taken], bytes);
-        }
-        Ok(())
-    }
-}

@@ -13,7 +13,8 @@ use Rattle.marker_format.specs.Zone.{Array, belongs}
 use Rattle.marker_format.proofs.MarkerRules.{Widths, IsMarker-from}
 use Rattle.set_table.specs.Table.{Table}
 use Rattle.set_writer.specs.Entry.{at_index}
-use Rattle.set_writer.specs.Members.{array_of, IsOfCode}
+use Rattle.set_writer.specs.Members.{IsOfCode}
+use Rattle.set_table.specs.Table.{array_of}
 use Rattle.set_writer.specs.Writer.{Writer, array_by, is_appended, IsAppended}
 
 -- What a record's marker says of the array and of its payload, and of the set that it is to be put to.

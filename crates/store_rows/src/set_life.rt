@@ -5,7 +5,8 @@ ghost use Rattle.marker_format.specs.Marker.{is_well_formed};
 ghost use Rattle.marker_format.proofs.MarkerRules.{Widths};
 ghost use Rattle.set_writer.specs.Entry.{at_index};
 ghost use Rattle.zone_bay.specs.Contents.{IsOfBay};
-ghost use Rattle.set_writer.specs.Members.{IsOfCode, array_of};
+ghost use Rattle.set_writer.specs.Members.{IsOfCode};
+ghost use Rattle.set_table.specs.Table.{array_of};
 ghost use Rattle.set_writer.specs.Writer.{array_by, is_appended, IsAppended};
 ghost use Rattle.set_writer.specs.Calls.{IsCuts};
 

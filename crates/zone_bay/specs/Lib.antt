@@ -5,4 +5,3 @@ pub mod Images
 pub mod Laws
 pub mod Outside
 pub mod Stretch
-pub mod Testing

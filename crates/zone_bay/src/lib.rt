@@ -11,6 +11,3 @@ pub use laws::{
     all_firm_leaves_all, append_leaves_more, flush_leaves_fewer, instants, missing_devices,
     more_leaves_more, reset_leaves_nothing,
 };
-
-#[cfg(test)]
-mod tests;

@@ -9,6 +9,3 @@ mod zone_reader;
 pub use laws::walks_give_all_records;
 pub use lost::Lost;
 pub use zone_reader::ZoneReader;
-
-#[cfg(test)]
-mod tests;

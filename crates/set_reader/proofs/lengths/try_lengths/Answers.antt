@@ -2,12 +2,12 @@ use Rattle.std.proofs.Common.{◌≡◌, ◌<◌, ◌≤◌, ℕ, List, length, 
 use Rattle.std.specs.List.{AllByRecursion}
 use Rattle.set_table.specs.declared.members.Member.{Member}
 use Rattle.set_table.specs.Table.{Table, is_live}
-use Rattle.set_writer.specs.Members.{array_of}
+use Rattle.set_table.specs.Table.{array_of}
 use Rattle.set_reader.specs.Carriers.{carrier_by, carriers_by, IsOneOf}
 use Rattle.set_reader.specs.Calls.{OnlyReadsBy, live_count}
 use Rattle.set_reader.proofs.Told.{told_at, told_from}
 use Rattle.set_reader.proofs.LossLaws.{count_falls, reads_lost}
-use Rattle.set_writer.specs.Rounds.{point_at}
+use Rattle.set_table.specs.Points.{point_at}
 use Rattle.set_reader.specs.Attempts.{Failed}
 use Rattle.set_reader.proofs.AttemptLaws.{attempt_failed}
 use Rattle.set_reader.proofs.PlaceLaws.{one_at, marker_within, lengths_are}

@@ -1,6 +1,6 @@
 use Rattle.std.proofs.Common.{ℕ, ap, sym, subst, ◌∙◌}
 use Rattle.set_table.specs.Table.{Table}
-use Rattle.set_writer.specs.Rounds.{point_at}
+use Rattle.set_table.specs.Points.{point_at}
 use Rattle.set_reader.specs.Attempts.{Answered, Failed}
 use Rattle.set_reader.specs.Calls.{CallsAtMost}
 use Rattle.set_reader.proofs.Told.{told_at, told_from}

@@ -5,7 +5,7 @@ use Rattle.set_table.specs.declared.members.Member.{Member}
 use Rattle.set_table.specs.Table.{Table}
 use Rattle.set_reader.specs.Carriers.{carriers_by, AreCarriers}
 use Rattle.set_reader.specs.Calls.{OnlyReadsBy, live_count}
-use Rattle.set_writer.specs.Rounds.{point_at}
+use Rattle.set_table.specs.Points.{point_at}
 use Rattle.set_reader.specs.Attempts.{Failed}
 use Rattle.set_reader.proofs.AttemptLaws.{attempt_failed}
 use Rattle.set_reader.specs.Rows.{IsInBay, HasBlocks, space_of, indexes_of}

@@ -1,4 +1,4 @@
-use Rattle.set_writer.specs.Rounds.{point_at}
+use Rattle.set_table.specs.Points.{point_at}
 use Rattle.set_writer.proofs.RoundLaws.{rounds_few}
 use Rattle.set_writer.proofs.laws.rounds_are_few.Goals as goal
 

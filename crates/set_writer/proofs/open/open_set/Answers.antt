@@ -1,6 +1,7 @@
 use Rattle.std.proofs.Common.{ℕ, ◌∙◌, ◌+◌, ◌≤◌, List, IfSome, Err, sym, ap, subst}
 use Rattle.set_table.specs.Table.{Table, with_empty_of}
-use Rattle.set_writer.specs.Members.{array_of, HoldBlocks}
+use Rattle.set_writer.specs.Members.{HoldBlocks}
+use Rattle.set_table.specs.Table.{array_of}
 use Rattle.set_writer.specs.Writer.{Writer, EmptyHold, opening}
 use Rattle.set_writer.proofs.FormedLaws.{reserved_hold}
 use Rattle.zone_bay.specs.Bay.{BayState}

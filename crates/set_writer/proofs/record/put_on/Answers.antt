@@ -6,7 +6,8 @@ use Rattle.marker_format.specs.Zone.{blocks_of}
 use Rattle.array_model.specs.Reading.{fragments_of}
 use Rattle.set_writer.specs.Entry.{Entry, fragment, entry_bytes, IsEntry}
 use Rattle.set_writer.specs.Body.{entry_of}
-use Rattle.set_writer.specs.Members.{HasRoom, IsOfCode, array_of, of_one, SpreadsBy}
+use Rattle.set_writer.specs.Members.{HasRoom, IsOfCode, of_one, SpreadsBy}
+use Rattle.set_table.specs.Table.{array_of}
 use Rattle.set_writer.proofs.EntryLaws.{fragment_size, length-entry_bytes, entry_written}
 use Rattle.set_writer.proofs.record.put_on.Goals as goal
 

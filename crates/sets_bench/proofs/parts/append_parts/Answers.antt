@@ -2,7 +2,7 @@ use Rattle.std.proofs.Common.{[], ap, sym, subst, ◌∙◌}
 use Rattle.smore_base.specs.declared.geometry.Geometry.{Geometry}
 use Rattle.zone_bay.specs.Contents.{IsOfBay}
 use Rattle.set_table.specs.Table.{Table}
-use Rattle.set_writer.specs.Members.{array_of}
+use Rattle.set_table.specs.Table.{array_of}
 use Rattle.set_writer.specs.Writer.{opening}
 use Rattle.sets_bench.proofs.PartLaws.{reserved, opened, ours}
 use Rattle.sets_bench.proofs.parts.append_parts.Goals as goal

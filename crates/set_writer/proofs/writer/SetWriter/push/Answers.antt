@@ -4,7 +4,8 @@ use Rattle.std.specs.Prelude.{IfSome}
 use Rattle.marker_format.specs.Zone.{Array, blocks_of}
 use Rattle.set_writer.specs.Entry.{entry_bytes, IsEntry}
 use Rattle.set_writer.specs.Body.{entry_of}
-use Rattle.set_writer.specs.Members.{Spreads, HoldBlocks, AllHaveRoom, array_of}
+use Rattle.set_writer.specs.Members.{Spreads, HoldBlocks, AllHaveRoom}
+use Rattle.set_table.specs.Table.{array_of}
 use Rattle.set_writer.specs.Writer.{Writer, array_by}
 use Rattle.set_writer.proofs.EntryLaws.{length-entry_bytes}
 use Rattle.set_writer.proofs.FitLaws.{blocks_most, fits_within, room_for, hold_more}

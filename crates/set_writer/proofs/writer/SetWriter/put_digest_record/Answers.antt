@@ -3,7 +3,8 @@ use Rattle.std.specs.Prelude.{IfSome}
 use Rattle.marker_format.specs.declared.marker.Marker.{Marker}
 use Rattle.marker_format.specs.Zone.{Array, blocks_of}
 use Rattle.set_writer.specs.Entry.{Entry, entry_bytes, IsEntry}
-use Rattle.set_writer.specs.Members.{Spreads, AllHaveRoom, array_of}
+use Rattle.set_writer.specs.Members.{Spreads, AllHaveRoom}
+use Rattle.set_table.specs.Table.{array_of}
 use Rattle.set_writer.specs.Writer.{Writer, digest_record}
 use Rattle.set_writer.specs.Fit.{live_of}
 use Rattle.set_writer.proofs.DigestLaws.{digest_is_entry}
