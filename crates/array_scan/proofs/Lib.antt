@@ -6,7 +6,6 @@ pub mod JudgedSets
 pub mod Zones
 pub mod AgreedLists
 pub mod SeenSets
-pub mod OwnLabels
 pub mod ScannedSets
 pub mod ToldObjects
 pub mod ValidRecords

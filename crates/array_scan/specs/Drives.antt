@@ -8,12 +8,6 @@ use Rattle.marker_format.specs.Label.{label_at}
 use Rattle.marker_format.specs.Block.{label_block}
 use Rattle.array_model.specs.Drives.{is_label_of_bay, label_on, drives_of, is_among}
 
--- the label of a device in its first block, where it is one of this bay
-abbrev pub label_in : Shape → ℕ → List ℕ → Option Label
-label_in shape device block =
-    let l = label_at (take LABEL_BYTES (drop 1 block)) in
-    if is_label_of_bay shape device l && bytes_eq block (label_block l) then Some l else None
-
 -- the drives that aren't away and have no label of this bay
 abbrev pub unlabelled : Shape → Contents → List ℕ → List ℕ
 unlabelled shape held away = filter (λ drive. not (is_among away drive) && is_none (label_on shape held drive)) (drives_of shape)

@@ -10,6 +10,9 @@ use smore_base::{
 /// Bytes of a label.
 pub const LABEL_BYTES: usize = 39;
 
+/// The first version of a label, and so far the only one.
+pub const LABEL_VERSION: u8 = 1;
+
 /// The bytes that a label begins with.
 const MAGIC: &[u8; 8] = b"SMORELB1";
 

@@ -19,7 +19,7 @@ pub use block::{
 pub use foot::{FOOT_BYTES, Foot, read_foot, write_foot};
 pub use fragment::{blocks_of, read_fragment, write_fragment, write_record};
 pub use kind::Kind;
-pub use label::{LABEL_BYTES, Label, read_label, write_label};
+pub use label::{LABEL_BYTES, LABEL_VERSION, Label, read_label, write_label};
 pub use laws::{
     blocks_hold_markers, cut_zones_have_the_first_records, longer_zones_keep_records,
     records_are_the_longest, records_count_in_whole_zones, records_stand_at_their_blocks,

@@ -4,7 +4,7 @@ use Rattle.std.specs.Prelude.{slice_get}
 use Rattle.smore_base.specs.declared.geometry.Geometry.{Geometry}
 use Rattle.zone_bay.specs.Contents.{Shape}
 use Rattle.marker_format.specs.Zone.{Array}
-use Rattle.store_core.specs.Label.{IsOfBay}
+use Rattle.zone_bay.specs.Contents.{IsOfBay}
 use Rattle.smore_top.specs.declared.command.Command.{Command}
 use Rattle.smore_top.specs.declared.command.Command.TheVariants as commands
 use Rattle.smore_top.specs.declared.task.Task.{Task}
@@ -39,9 +39,9 @@ nothing_asked shape words nothing (inl batch) = nothing.0 batch
 nothing_asked shape words nothing (inr (array, is, of_bay)) = nothing.1 array is
 
 -- an array of another shape than the bay's is asked for
-pub other_shape : (shape : Shape) (words : List (List ℕ)) (array : Array) → IsFormat array words → ¬ IsOfBay shape array.geometry → IsCommandLine shape words → ⊥
+pub other_shape : (shape : Shape) (words : List (List ℕ)) (array : Array) → IsFormat array words → ¬ IsOfBay array.geometry shape → IsCommandLine shape words → ⊥
 other_shape shape words array is other (inl batch) = batch_is_no_format words array batch is
-other_shape shape words array is other (inr (array', is', of_bay)) = other (subst (λ (a : Array). IsOfBay shape a.geometry) (one_format words array' array is' is) of_bay)
+other_shape shape words array is other (inr (array', is', of_bay)) = other (subst (λ (a : Array). IsOfBay a.geometry shape) (one_format words array' array is' is) of_bay)
 
 same_format : (f : List ℕ) (g : Geometry) (id : List ℕ) (f' : List ℕ) (g' : Geometry) (id' : List ℕ) → f ≡ f' → g ≡ g' → id ≡ id' → ◌≡◌ {A = Command} (commands.Format f g id) (commands.Format f' g' id')
 same_format f g id f' g' id' same_f same_g same_id = cc

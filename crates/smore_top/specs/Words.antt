@@ -6,7 +6,7 @@ use Rattle.smore_base.specs.declared.geometry.Geometry.{Geometry}
 use Rattle.smore_base.specs.Geometry.{IsWithinLimits}
 use Rattle.zone_bay.specs.Contents.{Shape}
 use Rattle.marker_format.specs.Zone.{Array}
-use Rattle.store_core.specs.Label.{IsOfBay}
+use Rattle.zone_bay.specs.Contents.{IsOfBay}
 use Rattle.smore_top.specs.declared.command.Command.{Command}
 use Rattle.smore_top.specs.declared.command.Command.TheVariants.{Format, Batch}
 use Rattle.smore_top.specs.declared.command.WordFault.{WordFault}
@@ -51,7 +51,7 @@ pub record IsFormat (array : Array) (words : List (List ℕ)) : Type 0 where
 
 -- the same, of an array with the devices, zones and blocks of a bay of this shape
 abbrev pub IsFormatFor : Shape → List (List ℕ) → Type 0
-IsFormatFor shape words = (array : Array) × IsFormat array words × IsOfBay shape array.geometry
+IsFormatFor shape words = (array : Array) × IsFormat array words × IsOfBay array.geometry shape
 
 -- a command line that is run over a bay of this shape
 abbrev pub IsCommandLine : Shape → List (List ℕ) → Type 0

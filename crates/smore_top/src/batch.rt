@@ -3,7 +3,7 @@ ghost use Rattle.std.specs.List.Sorted.{IsNonDecreasing};
 ghost use Rattle.smore_top.specs.declared.end.End.{End};
 ghost use Rattle.smore_top.specs.End.{status_of, end_of, SourceCount, SinkCount};
 ghost use Rattle.marker_format.specs.Zone.{Array};
-ghost use Rattle.store_core.specs.Label.{IsOfBay};
+ghost use Rattle.zone_bay.specs.Contents.{IsOfBay};
 ghost use Rattle.smore_top.specs.Headline.{sides, Runs, RunsBatch, NeverBegan, RunsFormat, AcknowledgeEach, ran_by};
 ghost use Rattle.smore_top.specs.Turn.{ran_of};
 ghost use Rattle.smore_top.specs.Words.{IsFormat, IsFormatFor, IsCommandLine};
@@ -142,7 +142,7 @@ pub fn run_batch<S: Source, K: Sink, B: Bay>(
         ⊎ RunsBatch ⟦<B as Bay>⟧ (ran_by result.0)
         (sides (S.left source.old) (K.held sink.old) bay)
         (sides (S.left source.new) (K.held sink.new) result.1) }
-    ensures format { (array : Array) → IsFormat array words.now → IsOfBay (B.state bay).shape array.geometry
+    ensures format { (array : Array) → IsFormat array words.now → IsOfBay array.geometry (B.state bay).shape
         → RunsFormat B.state array (ran_by result.0)
         (sides (S.left source.old) (K.held sink.old) bay)
         (sides (S.left source.new) (K.held sink.new) result.1) × (source.new ≡ source.old) }

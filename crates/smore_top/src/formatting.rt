@@ -1,6 +1,6 @@
 //! What `format` does.
 ghost use Rattle.std.specs.Prelude.{◌≡◌, ◌↔◌, List, ℕ, Option, length, IsTrue};
-ghost use Rattle.store_core.specs.Label.{IsOfBay};
+ghost use Rattle.zone_bay.specs.Contents.{IsOfBay};
 ghost use Rattle.smore_top.specs.End.{SinkCount};
 ghost use Rattle.smore_top.specs.Words.{IsId, IsMadeGeometry};
 ghost use Rattle.smore_top.specs.Task.{array_of};
@@ -19,7 +19,7 @@ const FORMATTED: &[u8] = b"formatted\n";
 
 /// Whether the bay has the devices, zones and blocks of this geometry.
 pub(crate) fn is_of_bay<B: Bay>(geometry: &Geometry, bay: &B) -> bool
-    ensures { IsTrue result ↔ IsOfBay (B.state bay.now).shape geometry.now }
+    ensures { IsTrue result ↔ IsOfBay geometry.now (B.state bay.now).shape }
 {
     u16::from(geometry.drives) + 1 == u16::from(bay.devices())
         && geometry.zones == bay.zones()
@@ -30,7 +30,7 @@ pub(crate) fn is_of_bay<B: Bay>(geometry: &Geometry, bay: &B) -> bool
 pub(crate) fn make_array<K: Sink, B: Bay>(new: &NewArray, sink: &mut K, bay: &mut B) -> End
     requires id { IsId new.now.id }
     requires geometry { IsMadeGeometry new.now.geometry }
-    requires shaped { IsOfBay (B.state bay.old).shape new.now.geometry }
+    requires shaped { IsOfBay new.now.geometry (B.state bay.old).shape }
     ensures formats { (left : Option (List ℕ)) → FormatsBy B.state (array_of new.now) result
         (sides left (K.held sink.old) bay.old)
         (sides left (K.held sink.new) bay.new) }

@@ -12,7 +12,7 @@ use Rattle.zone_bay.proofs.Calls.{made_then}
 use Rattle.zone_bay.proofs.Causes.{cause_later, cause_failed}
 use Rattle.zone_bay.proofs.Toward.{toward_start, toward_call, fails_toward}
 use Rattle.store_core.specs.DeviceCalls.{Appends}
-use Rattle.store_core.proofs.CallSteps.{flush_keeps}
+use Rattle.zone_bay.proofs.OneDevice.{flush_keeps}
 
 module _ (bytes : List ℕ) (old mid : BayState) (sound : IsSound old) where
   start : {Q : ℕ → ℕ → Type 0} → GoesToward (appended 0 2 bytes) old old Q

@@ -28,7 +28,7 @@ use Rattle.store_core.specs.Extent.{extents_of, mapped}
 use Rattle.store_core.specs.Index.{notes_in, parts_in, extent_in, extents_in}
 use Rattle.store_core.specs.DeviceCalls.{Appends}
 use Rattle.store_core.specs.declared.zone.Load.{Load}
-use Rattle.store_core.specs.Label.{IsOfBay}
+use Rattle.zone_bay.specs.Contents.{IsOfBay}
 use Rattle.store_core.specs.OpenZone.{behind, IsOfSet}
 use Rattle.store_core.specs.Opening.{IsOpenZone}
 use Rattle.store_core.specs.Zone.{set_of, index_of, next_stamp}
@@ -375,8 +375,8 @@ module _ {B : Type 0} {g : bay.Ghosts B} (core : Core B g) where
 
   -- ---- what else it keeps
 
-  pub same_bay : (now : BayState) → now.shape ≡ (g.state core.bay).shape → IsOfBay now.shape core.geometry
-  same_bay now same = subst (λ (shape : Shape). IsOfBay shape core.geometry) (sym same) core.of_bay
+  pub same_bay : (now : BayState) → now.shape ≡ (g.state core.bay).shape → IsOfBay core.geometry now.shape
+  same_bay now same = subst (λ (shape : Shape). IsOfBay core.geometry shape) (sym same) core.of_bay
 
   pub buffer_written : (out : List ℕ) → length out ≡ core.buffer.len → length (take core.buffer.len (out ++ drop (length out) core.buffer.items)) ≡ 512 * (blocks_of core.geometry.shard + 2)
   buffer_written out long = omega (arith, length-take core.buffer.len (out ++ drop (length out) core.buffer.items), length-append out (drop (length out) core.buffer.items), long, core_buffer)

@@ -33,7 +33,7 @@ use Rattle.store_core.proofs.Mapped.{get-mapped}
 use Rattle.store_core.specs.declared.index.Note.{Note}
 use Rattle.store_core.specs.Index.{notes_in, parts_in, extent_in}
 use Rattle.store_core.specs.Get.{parts_at, AllCanBeRead, AllLieIn}
-use Rattle.store_core.specs.DeviceCalls.{ReadsOn}
+use Rattle.zone_bay.specs.OneDevice.{ReadsOn}
 use Rattle.store_core.specs.Store.{Standing, Case, Cause, GetCause, Move, case_between, known_after, standing_after, FitsFrame}
 use Rattle.store_core.specs.Held.{used, IsHeld}
 use Rattle.store_core.specs.Stopped.{MayStop}

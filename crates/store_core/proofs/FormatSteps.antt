@@ -9,7 +9,7 @@ use Rattle.zone_bay.specs.Bay.{BayState}
 use Rattle.zone_bay.specs.Stretch.{GoesOn}
 use Rattle.marker_format.specs.Zone.{Array}
 use Rattle.array_model.specs.Kept.{IsFormatted}
-use Rattle.store_core.specs.Label.{IsOfBay}
+use Rattle.zone_bay.specs.Contents.{IsOfBay}
 use Rattle.store_core.specs.Format.{AreFormatted}
 
 -- calls that were all answered
@@ -17,7 +17,7 @@ abbrev pub AreAnswered : BayState → BayState → Type 0
 AreAnswered old new = GoesOn old new (λ _ _. ⊤) (λ _ _. ⊥)
 
 -- once all devices hold their labels alone, the array is a new one: nothing is held outside the devices and their zones
-pub formatted : (array : Array) (shape : Shape) (old new : Option Contents) (count : ℕ) → IsWithinLimits array.geometry → length array.id ≡ 16 → IsOfBay shape array.geometry → shape.devices ≤ count
+pub formatted : (array : Array) (shape : Shape) (old new : Option Contents) (count : ℕ) → IsWithinLimits array.geometry → length array.id ≡ 16 → IsOfBay array.geometry shape → shape.devices ≤ count
     → IfSome new (λ held. (d z : ℕ) → (shape.devices ≤ d) ⊎ (shape.zones ≤ z) → held d z ≡ [])
     → Told old new (λ _ held. AreFormatted count shape.zones array held) → Told old new (λ _ held. IsFormatted array shape held)
 formatted array shape None None count within long shaped all inside made = tt

@@ -23,7 +23,7 @@ use Rattle.store_core.specs.Zone.{opening_bytes}
 use Rattle.store_core.specs.Opening.{BeginsSet, IsAlone}
 use Rattle.store_core.specs.Format.{IsFirmOn}
 use Rattle.store_core.specs.Stopped.{OpensTo, Keeps}
-use Rattle.store_core.proofs.LabelBlock.{length-label_block, label_in-own, where_ours, label_on-by}
+use Rattle.label_reader.proofs.LabelBlock.{length-label_block, label_in-own, where_ours, label_on-by}
 use Rattle.store_core.proofs.Held.{map_blank}
 
 -- ---- the label of drive 0

@@ -1,7 +1,6 @@
 pub mod AppendSteps
 pub mod BlankZones
 pub mod ToldFragments
-pub mod CallSteps
 pub mod CoreSteps
 pub mod StoreMoves
 pub mod SaidMore
@@ -21,7 +20,6 @@ pub mod Held
 pub mod HeldItems
 pub mod HeldProps
 pub mod IndexMaps
-pub mod LabelBlock
 pub mod Listing
 pub mod Mapped
 pub mod PartsRead

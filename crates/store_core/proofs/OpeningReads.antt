@@ -17,7 +17,7 @@ use Rattle.store_core.specs.declared.store.Core.{Core}
 use Rattle.store_core.specs.declared.opening.OpenRefusal.{OpenRefusal}
 use Rattle.store_core.specs.declared.opening.OpenRefusal.TheVariants.{Memory, NoLabel}
 use Rattle.store_core.specs.DeviceCalls.{ReadsAny}
-use Rattle.store_core.specs.Label.{IsOfBay}
+use Rattle.zone_bay.specs.Contents.{IsOfBay}
 use Rattle.store_core.specs.Opening.{BeginsSet, HoldsSet, CanOpen, CanNotOpen}
 use Rattle.store_core.specs.Zone.{opening_bytes}
 use Rattle.store_core.specs.Stopped.{RecoversTo, Keeps, MayStop}
@@ -113,7 +113,7 @@ module _ {B : Type 0} {g : bay.Ghosts B} (old mid : B) (sound : IsSound (g.state
     map = subst (λ (s : Shape). Told (g.state old).contents (told_store g.state core) (λ held t. t.state.objects ≡ map_in (array_in core) s held)) (same_shape (g.state old) (g.state mid) sound reads)
         (subst (λ (c : Option Contents). Told c (told_store g.state core) (λ held t. t.state.objects ≡ map_in (array_in core) (g.state mid).shape held)) reads.contents it.map);
     at = it.at;
-    of_bay = subst (λ (s : Shape). IsOfBay s core.geometry) (same_shape (g.state old) (g.state mid) sound reads) it.of_bay;
+    of_bay = subst (λ (s : Shape). IsOfBay core.geometry s) (same_shape (g.state old) (g.state mid) sound reads) it.of_bay;
     works = it.works;
     goes = goes_behind (g.state old) (g.state mid) sound reads (g.state (bay_of core)) it.goes;
     begun = before (g.state old) (g.state mid) sound reads (λ shape held. BeginsSet (array_in core) (held 0 2) → Begins (array_in core) (held 0 2) (g.state old) (g.state (bay_of core)))

@@ -26,7 +26,7 @@ use Rattle.store_core.specs.declared.opening.Found.{Found}
 use Rattle.store_core.specs.declared.opening.Found.TheVariants.{Begins as FoundBegins, Holds as FoundHolds}
 use Rattle.store_core.specs.declared.opening.Opening.{Opening}
 use Rattle.store_core.specs.DeviceCalls.{Appends}
-use Rattle.store_core.specs.Label.{IsOfBay}
+use Rattle.zone_bay.specs.Contents.{IsOfBay}
 use Rattle.store_core.specs.Zone.{standing_in, first_markers, opening_bytes}
 use Rattle.store_core.specs.ZoneRecords.{HasRead}
 use Rattle.store_core.specs.Opening.{array_by, BeginsSet, HoldsSet, CanOpen}
@@ -191,7 +191,7 @@ module _ {B : Type 0} {g : bay.Ghosts B} (old : B) (core : Core B g) (works : is
     map = told_changed (drop written (opening_bytes (array_in core))) (g.state old).contents (g.state core.bay).contents (store_over core (g.state core.bay)) _ it.became
         (IfSome-both (g.state old).contents _ _ _ (from_appended (drop written (opening_bytes (array_in core))) (g.state old).contents (g.state core.bay).contents _ it.became map) objects_begun (λ held is same. is ∙ same));
     at = at;
-    of_bay = subst (λ (s : Shape). IsOfBay s core.geometry) same_shape core.of_bay;
+    of_bay = subst (λ (s : Shape). IsOfBay core.geometry s) same_shape core.of_bay;
     works = works;
     goes = record {
       goes_on = goes_weaker (g.state old) (g.state core.bay) _ _ _ _ (λ i image since left. tt) (λ d m since none. absurd none) it.toward.goes_on;

@@ -5,7 +5,8 @@ use Rattle.zone_bay.specs.Outside.{Rose}
 use Rattle.zone_bay.specs.Bay.{BayState}
 use Rattle.zone_bay.specs.Stretch.{OnlyReads}
 use Rattle.zone_bay.proofs.Stretch.{reads_nothing, reads_join, reads_weaker}
-use Rattle.store_core.specs.DeviceCalls.{ReadsOn, ReadsAny}
+use Rattle.store_core.specs.DeviceCalls.{ReadsAny}
+use Rattle.zone_bay.specs.OneDevice.{ReadsOn}
 
 -- no call
 pub any_none : (bay : BayState) (P : Type 0) → (P → ⊥) → ReadsAny P bay bay

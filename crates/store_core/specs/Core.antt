@@ -25,7 +25,7 @@ use Rattle.store_core.specs.declared.store.TheConstants.{DRIVE, ZONE}
 use Rattle.store_core.specs.declared.opening.OpenRefusal.{OpenRefusal}
 use Rattle.store_core.specs.declared.opening.OpenRefusal.TheVariants.{Memory, NoLabel}
 use Rattle.store_core.specs.declared.records.RecordPlace.{RecordPlace}
-use Rattle.store_core.specs.Label.{IsOfBay}
+use Rattle.zone_bay.specs.Contents.{IsOfBay}
 use Rattle.store_core.specs.Extent.{Extents}
 use Rattle.store_core.specs.Index.{extents_in}
 use Rattle.store_core.specs.Store.{Standing, Case, Store, Cause, Move, known_after, standing_after, FitsFrame}
@@ -191,7 +191,7 @@ pub record Serves {B : Type 0} {g : bay.Ghosts B} (state : B → BayState) (old 
   pub can : IfSome (state old).contents (λ held. CanOpen (state old).shape held (array_in core))
   pub map : Told (state old).contents (told_store state core) (λ held s. s.state.objects ≡ map_in (array_in core) (state old).shape held)
   pub at : IfSome (state (bay_of core)).contents (λ held. standing_of core ≡ standing_in (array_in core) (held DRIVE ZONE))
-  pub of_bay : IsOfBay (state old).shape (geometry_of core)
+  pub of_bay : IsOfBay (geometry_of core) (state old).shape
   pub works : is_lost_in core ≡ false
   pub goes : Goes false false (state old) (state (bay_of core))
   -- a zone that begins a set gets the rest of its head and its ready record, which are firm; one that holds a set is only read

@@ -7,17 +7,6 @@ use Rattle.zone_bay.specs.Bay.{BayState, Becomes, held_in}
 use Rattle.zone_bay.specs.Stretch.{GoesOn, OnlyReads, FailsReading, GoesToward, FailsToward}
 use Rattle.store_core.specs.declared.store.TheConstants.{DRIVE, ZONE}
 
--- Any number of calls on the device: only a failed one makes the answer a failure, and then its count rose.
-pub record CallsOn {T E : Type 0} (device : ℕ) (old new : BayState) (result : Result T E) : Type 0 where
-  pub goes_on : GoesOn old new (λ _ _. ⊤) (λ d _. IsErr result × (d ≡ device))
-  pub cause : HasCause result (old.faults device) (new.faults device)
-
--- The same of calls that only read. One that failed did so over what was held at first.
-pub record ReadsOn {T E : Type 0} (device : ℕ) (old new : BayState) (result : Result T E) : Type 0 where
-  pub only : OnlyReads old new (λ d _. IsErr result × (d ≡ device))
-  pub cause : HasCause result (old.faults device) (new.faults device)
-  pub over : OnErr result (FailsReading device old new)
-
 -- Calls that only read, on any devices. One of them failed only where the answer says so, and then its device's count rose.
 pub record ReadsAny (IsTold : Type 0) (old new : BayState) : Type 0 where
   pub only : OnlyReads old new (λ _ _. IsTold)

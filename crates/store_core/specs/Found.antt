@@ -16,7 +16,7 @@ use Rattle.store_core.specs.declared.opening.Found.TheVariants.{Begins, Holds}
 use Rattle.store_core.specs.declared.opening.Opening.{Opening}
 use Rattle.store_core.specs.declared.zone_records.ZoneRecords.{ZoneRecords}
 use Rattle.marker_format.specs.Fragment.{blocks_of}
-use Rattle.store_core.specs.Label.{IsOfBay}
+use Rattle.zone_bay.specs.Contents.{IsOfBay}
 use Rattle.store_core.specs.ZoneRecords.{HasRead}
 use Rattle.store_core.specs.Opening.{array_by, BeginsSet, HoldsSet, IsAlone}
 
@@ -29,7 +29,7 @@ IsLost result = IsErrAnd result (λ fault. fault ≡ Lost)
 -- the label is of this bay, and of an array of k 1 and p 1
 pub record IsOne (shape : Shape) (l : Label) : Type 0 where
   pub limits : IsWithinLimits l.geometry
-  pub of_bay : IsOfBay shape l.geometry
+  pub of_bay : IsOfBay l.geometry shape
   pub one_source : l.geometry.k ≡ 1
   pub one_parity : l.geometry.p ≡ 1
 

@@ -1,4 +1,3 @@
-pub mod Label
 pub mod DeviceCalls
 pub mod Format
 pub mod Extent

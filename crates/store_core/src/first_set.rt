@@ -1,6 +1,7 @@
 //! The records that a set begins with: a head, and a ready record.
 ghost use Rattle.std.specs.Prelude.{◌≡◌, ◌≤◌, ◌<◌, ◌*◌, ◌↔◌, length, drop, IfSome, IfOk, IsTrue, false};
-ghost use Rattle.store_core.specs.DeviceCalls.{ReadsOn, Appends};
+ghost use Rattle.store_core.specs.DeviceCalls.{Appends};
+ghost use Rattle.zone_bay.specs.OneDevice.{ReadsOn};
 ghost use Rattle.store_core.specs.Zone.{first_place, first_markers, opening_bytes};
 ghost use Rattle.store_core.specs.ZoneRecords.{HasRead};
 ghost use Rattle.store_core.specs.Opening.{array_by, BeginsSet};

@@ -3,16 +3,15 @@ ghost use Rattle.smore_base.specs.declared.limits.TheConstants.{BLOCK_BYTES};
 ghost use Rattle.smore_base.specs.Geometry.{IsWithinLimits};
 ghost use Rattle.smore_base.specs.Told.{Told};
 ghost use Rattle.zone_bay.specs.Outside.{Rose};
-ghost use Rattle.store_core.specs.DeviceCalls.{CallsOn};
+ghost use Rattle.zone_bay.specs.OneDevice.{CallsOn};
 ghost use Rattle.marker_format.specs.Block.{label_block};
 ghost use Rattle.array_model.specs.Kept.{IsFormatted};
-ghost use Rattle.store_core.specs.Label.{IsOfBay};
+ghost use Rattle.zone_bay.specs.Contents.{IsOfBay};
 ghost use Rattle.store_core.specs.Format.{ZoneHolds, AreEmptied, DeviceHolds, IsFirmOn, KeepsFirm, KeepsNone};
 
-use crate::bay_label::VERSION;
 use crate::blocks::BLOCK;
 use crate::store::Core;
-use marker_format::{Label, write_label_block};
+use marker_format::{LABEL_VERSION, Label, write_label_block};
 use smore_base::Geometry;
 use thiserror::Error;
 use zone_bay::{Bay, Failed};
@@ -92,7 +91,7 @@ impl<B: Bay> Core<B> {
     /// Makes an array of this geometry: each zone that is written is reset, and each device gets its label.
     pub fn format(bay: &mut B, geometry: &Geometry, array: [u8; 16]) -> Result<(), FormatFailed>
         requires within { IsWithinLimits geometry.now }
-        requires shaped { IsOfBay (B.state bay.old).shape geometry.now }
+        requires shaped { IsOfBay geometry.now (B.state bay.old).shape }
         ensures ok { OnOk result (Told (B.state bay.old).contents (B.state bay.new).contents
             (λ _ held. IsFormatted (record { geometry = geometry.now; id = array }) (B.state bay.old).shape held)) }
         ensures firm { OnOk result ((d : ℕ) → d < (B.state bay.old).shape.devices → IsFirmOn d (B.state bay.new)) }
@@ -105,7 +104,7 @@ impl<B: Bay> Core<B> {
     {
         for device in 0..bay.devices() {
             let block = block_of(&Label {
-                version: VERSION,
+                version: LABEL_VERSION,
                 device,
                 geometry: *geometry,
                 array,

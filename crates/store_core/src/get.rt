@@ -4,7 +4,7 @@ ghost use Rattle.smore_base.specs.declared.limits.TheConstants.{MAX_BLOCKS};
 ghost use Rattle.smore_base.specs.Name.{IsName};
 ghost use Rattle.object_machine.specs.declared.op.Op.TheVariants.{Get};
 ghost use Rattle.store_core.specs.declared.extent.Extent.TheVariants.{Sized};
-ghost use Rattle.store_core.specs.DeviceCalls.{ReadsOn};
+ghost use Rattle.zone_bay.specs.OneDevice.{ReadsOn};
 ghost use Rattle.store_core.specs.Index.{notes_in, parts_in, extent_in};
 ghost use Rattle.store_core.specs.Get.{parts_at, AllCanBeRead, AllLieIn};
 

@@ -3,7 +3,6 @@
 #![tactic(auto)]
 
 mod append;
-mod bay_label;
 mod blocks;
 mod delete;
 mod extent;

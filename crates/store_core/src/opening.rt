@@ -1,17 +1,18 @@
 ghost use Rattle.std.specs.Prelude.{◌≡◌, ◌⊎◌, ◌<◌, ◌≤◌, ◌+◌, ◌*◌, ◌↔◌, length, IfSome, IfOk, IsErr, IsTrue, MatchOption, false};
 ghost use Rattle.store_core.specs.declared.opening.Fault.TheVariants as faults;
 ghost use Rattle.marker_format.specs.Fragment.{blocks_of};
-ghost use Rattle.store_core.specs.DeviceCalls.{ReadsOn, ReadsAny};
+ghost use Rattle.store_core.specs.DeviceCalls.{ReadsAny};
+ghost use Rattle.zone_bay.specs.OneDevice.{ReadsOn};
 ghost use Rattle.store_core.specs.Opening.{array_by, IsBlankFrom, IsAlone, BeginsSet, HoldsSet, CanNotOpen};
 ghost use Rattle.store_core.specs.Found.{IsLost, IsOne, Fits, FitsZone, FitsFound, IsLabelled, IsRead, IsFound, IsOpening};
 ghost use Rattle.store_core.specs.Core.{Opens, array_in, bay_of, is_lost_in, standing_of, store_over, map_in};
 ghost use Rattle.store_core.specs.Zone.{standing_in};
 
-use crate::bay_label::read_bay_label;
 use crate::first_set::{begin_set, begins_set, first_records};
 use crate::said::Said;
 use crate::store::{Core, DRIVE, FIRST_SET_ZONE, ZONE};
 use crate::zone_records::ZoneRecords;
+use label_reader::read_bay_label;
 use marker_format::Label;
 use smore_base::{BLOCK_BYTES, CONTENT_BYTES, MAX_SHARD_BYTES, Memory};
 use std::alloc::{AllocError, Global};

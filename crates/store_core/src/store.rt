@@ -4,7 +4,7 @@ ghost use Rattle.smore_base.specs.Geometry.{IsWithinLimits};
 ghost use Rattle.marker_format.specs.declared.marker.TheConstants.{COUNTER_END};
 ghost use Rattle.object_machine.specs.Coding.{IsMadeFor};
 ghost use Rattle.marker_format.specs.Fragment.{blocks_of};
-ghost use Rattle.store_core.specs.Label.{IsOfBay};
+ghost use Rattle.zone_bay.specs.Contents.{IsOfBay};
 ghost use Rattle.store_core.specs.OpenZone.{IsOfSet};
 ghost use Rattle.store_core.specs.Sound.{IsSoundIndex};
 ghost use Rattle.store_core.specs.Held.{IsHeld, IsFull};
@@ -54,7 +54,7 @@ pub struct Core<B: Bay> {
     pub(crate) buffer: Vec<u8>,
     pub(crate) is_lost: bool,
     ghost limits: { IsWithinLimits geometry },
-    ghost of_bay: { IsOfBay (B.state bay).shape geometry },
+    ghost of_bay: { IsOfBay geometry (B.state bay).shape },
     ghost one_source: { geometry.k ≡ 1 },
     ghost one_parity: { geometry.p ≡ 1 },
     ghost id: { length array ≡ 16 },

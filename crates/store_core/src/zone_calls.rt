@@ -2,7 +2,8 @@
 ghost use Rattle.std.specs.Prelude.{◌≡◌, ◌+◌, ◌*◌, ◌^◌, ◌<◌, ◌≤◌, length, IfSome, OnOk};
 ghost use Rattle.smore_base.specs.declared.limits.TheConstants.{BLOCK_BYTES};
 ghost use Rattle.marker_format.specs.Fragment.{fragment_at, blocks_of};
-ghost use Rattle.store_core.specs.DeviceCalls.{ReadsOn, Appends};
+ghost use Rattle.store_core.specs.DeviceCalls.{Appends};
+ghost use Rattle.zone_bay.specs.OneDevice.{ReadsOn};
 
 use crate::blocks::{BLOCK, CONTENT};
 use crate::store::{DRIVE, ZONE};

@@ -6,3 +6,4 @@ pub mod Images
 pub mod Stretch
 pub mod Toward
 pub mod TowardThen
+pub mod OneDevice

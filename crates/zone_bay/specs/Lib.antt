@@ -5,3 +5,4 @@ pub mod Images
 pub mod Laws
 pub mod Outside
 pub mod Stretch
+pub mod OneDevice

@@ -7,7 +7,7 @@ use Rattle.marker_format.specs.Fragment.{fragment_at, blocks_of}
 use Rattle.store_core.specs.declared.index.Part.{Part}
 use Rattle.store_core.specs.Index.{Parts, parts_in, sizes_in}
 use Rattle.marker_format.proofs.FragmentLaws.{length-put_mid}
-use Rattle.store_core.proofs.CallSteps.{reads_then, reads_answered}
+use Rattle.zone_bay.proofs.OneDevice.{reads_then, reads_answered}
 use Rattle.store_core.proofs.Extents.{sum_goes_on}
 use Rattle.store_core.proofs.PartsRead.{IsFilledSoFar, sized_sum, sum_within, filled_next, length-piece}
 use Rattle.store_core.proofs.get.read_parts.Goals as goal

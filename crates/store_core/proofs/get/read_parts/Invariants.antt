@@ -1,6 +1,6 @@
 use Rattle.std.proofs.Common.{◌≡◌, length, IfSome, Ok}
 use Rattle.store_core.specs.Index.{parts_in, sizes_in}
-use Rattle.store_core.specs.DeviceCalls.{ReadsOn}
+use Rattle.zone_bay.specs.OneDevice.{ReadsOn}
 use Rattle.store_core.proofs.Extents.{IsSoFar}
 use Rattle.store_core.proofs.PartsRead.{IsFilledSoFar}
 use Rattle.store_core.proofs.get.read_parts.Given as goal

@@ -1,7 +1,7 @@
 use Rattle.std.proofs.Common.{arith, ap}
 use Rattle.zone_bay.specs.declared.failed.Failed.{Failed}
 use Rattle.zone_bay.specs.Contents.{Shape}
-use Rattle.store_core.proofs.CallSteps.{reads_none, reads_then, reads_failed, reads_answered, written_on}
+use Rattle.zone_bay.proofs.OneDevice.{reads_none, reads_then, reads_failed, reads_answered, written_on}
 use Rattle.store_core.proofs.BlankZones.{blank_start, blank_more}
 use Rattle.store_core.proofs.opening.is_blank_from.Goals as goal
 

@@ -1,6 +1,6 @@
 use Rattle.std.proofs.Common.{ℕ, Ok, IfSome}
 use Rattle.zone_bay.specs.declared.failed.Failed.{Failed}
-use Rattle.store_core.specs.DeviceCalls.{ReadsOn}
+use Rattle.zone_bay.specs.OneDevice.{ReadsOn}
 use Rattle.store_core.specs.Opening.{IsBlankFrom}
 use Rattle.store_core.proofs.opening.is_blank_from.Given as goal
 

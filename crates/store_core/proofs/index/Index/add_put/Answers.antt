@@ -2,7 +2,7 @@ use Rattle.std.proofs.Common.{cond, ap, ◌∙◌}
 use Rattle.std.specs.Prelude.{is_some}
 use Rattle.std.specs.FinMap.{insert, remove}
 use Rattle.store_core.specs.Index.{PartKey, parts_in}
-use Rattle.store_core.proofs.CallSteps.{on_err}
+use Rattle.zone_bay.proofs.OneDevice.{on_err}
 use Rattle.store_core.proofs.IndexMaps.{part_taken_back}
 use Rattle.store_core.proofs.index.Index.add_put.Goals as goal
 

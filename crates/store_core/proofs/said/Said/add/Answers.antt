@@ -12,7 +12,7 @@ use Rattle.marker_format.specs.Fragment.{blocks_of}
 use Rattle.store_core.specs.Index.{PartKey, parts_in, notes_in, with_part}
 use Rattle.store_core.specs.Said.{note_read}
 use Rattle.store_core.specs.Sound.{IsSoundPart, IsSoundIndex}
-use Rattle.store_core.proofs.CallSteps.{on_ok_map}
+use Rattle.zone_bay.proofs.OneDevice.{on_ok_map}
 use Rattle.store_core.proofs.SaidLaws.{one_source, kind_known, bounds, said_kind, named, added_part, added_note, added_default}
 use Rattle.store_core.proofs.SoundLaws.{sound_same, sound_with_part}
 use Rattle.store_core.proofs.said.Said.add.Goals as goal
