@@ -6,3 +6,4 @@ pub mod LabelLaws
 pub mod MarkerLaws
 pub mod MarkerRules
 pub mod ZoneLaws
+pub mod PlainMarkers

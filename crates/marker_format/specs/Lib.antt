@@ -8,3 +8,4 @@ pub mod Laws
 pub mod Marker
 pub mod Tag
 pub mod Zone
+pub mod Plain

@@ -3,6 +3,7 @@ ghost use Rattle.std.specs.Int.{w8};
 ghost use Rattle.smore_base.specs.BigEndian.{IsWritten, spelled, number_at};
 ghost use Rattle.marker_format.specs.declared.marker.Marker.{Marker};
 ghost use Rattle.marker_format.specs.Marker.{IsMarker, fields_of, bytes_of_name, name_field, spelling_of, marker_at, name_of, IsPadded, is_used, is_named, is_coded, uses, counts, is_well_formed};
+ghost use Rattle.marker_format.specs.Plain.{plain_marker};
 
 use crate::Kind;
 use crate::magic::{are_zeros, has_frame};
@@ -52,6 +53,29 @@ pub struct Marker {
 }
 
 impl Marker {
+    /// A marker of index 0 without what only some kinds have.
+    pub fn plain(kind: Kind, k: u8, n: u8, set: u64, position: u16, array: [u8; 16]) -> Marker
+        ensures { result ≡ plain_marker array k n set kind position }
+    {
+        Marker {
+            kind: kind.number(),
+            index: 0,
+            k,
+            n,
+            set,
+            position,
+            fragment: 0,
+            stamp: 0,
+            upload: 0,
+            part: 0,
+            parts: 0,
+            length: 0,
+            payload: 0,
+            array,
+            name: None,
+        }
+    }
+
     /// The marker of the same record in the zone of another index. Takes no memory.
     pub fn at_index(&self, index: u8) -> Marker
         ensures { result ≡ record self.now { index = index } }
