@@ -4,11 +4,11 @@ ghost use Rattle.zone_bay.specs.Bay.{Becomes, held_in};
 ghost use Rattle.zone_bay.specs.Stretch.{GoesToward, FailsToward};
 ghost use Rattle.bay_tests.specs.Testing.{on_both};
 
+use std::test::Fail;
 use zone_bay::{
     Bay, Failed, all_firm_leaves_all, append_leaves_more, flush_leaves_fewer, instants,
     missing_devices, more_leaves_more, reset_leaves_nothing,
 };
-use std::test::Fail;
 
 /// A bay of two devices that counts, and tells nothing of what it holds. A call fails where the device is broken, and at
 /// the last moment.

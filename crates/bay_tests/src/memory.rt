@@ -1,8 +1,8 @@
 //! Calls on an array of two devices in memory, and what crashes leave of it.
 
-use bay_memory::{Image, Keep, MemoryBay};
 use Call::{Append, Flush, Read, Replace, Reset, Written};
 use Step::{Asked, Crash, Cut, Done, Fails, Listed, Lost, NoImage, Taken};
+use bay_memory::{Image, Keep, MemoryBay};
 use std::process::Abort;
 use std::test::Fail;
 use zone_bay::{Bay, Failed};

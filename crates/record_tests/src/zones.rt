@@ -3,7 +3,6 @@
 ghost use Rattle.std.specs.Prelude.{IfOk};
 ghost use Rattle.zone_parse.specs.ZoneReader.{CanRead};
 
-use zone_parse::{Lost, ZoneReader};
 use Block::{Data, Foot, Half, Ready, Record};
 use bay_memory::MemoryBay;
 use smore_base::Geometry;
@@ -11,6 +10,7 @@ use std::alloc::Global;
 use std::process::Abort;
 use std::test::Fail;
 use zone_bay::Bay;
+use zone_parse::{Lost, ZoneReader};
 
 const GEOMETRY: Geometry = Geometry {
     drives: 2,

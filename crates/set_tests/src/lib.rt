@@ -3,16 +3,12 @@
 #![tactic(auto)]
 
 mod laws;
-
 #[cfg(test)]
 mod reader;
-
 #[cfg(test)]
 mod scan;
-
 #[cfg(test)]
 mod table;
-
 #[cfg(test)]
 mod writer;
 

@@ -3,9 +3,9 @@
 ghost use Rattle.std.specs.Prelude.{◌≤◌, length};
 ghost use Rattle.marker_format.proofs.MarkerRules.{Widths};
 
-use set_reader::{ReadRefusal, read_record};
 use marker_format::{Marker, write_record};
 use rs_code::{Code, Coded};
+use set_reader::{ReadRefusal, read_record};
 use set_table::SetTable;
 use smore_base::{Geometry, Name, Place};
 use std::alloc::Global;

@@ -1,10 +1,10 @@
 //! The life of a set over drives in memory, and what a scan says of it.
 
-use set_writer::{SetWriter, WriteRefusal, open_set};
 use array_scan::scan;
 use bay_memory::MemoryBay;
 use marker_format::{Label, write_label_block};
 use set_table::SetTable;
+use set_writer::{SetWriter, WriteRefusal, open_set};
 use smore_base::Geometry;
 use std::alloc::Global;
 use std::process::Abort;

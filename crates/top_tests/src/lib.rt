@@ -3,9 +3,7 @@
 
 #[cfg(test)]
 mod command_lines;
-
 #[cfg(test)]
 mod replies;
-
 #[cfg(test)]
 mod streams;

@@ -9,12 +9,7 @@ use std::alloc::Global;
 use std::process::Abort;
 use std::test::Fail;
 
-fn assert_frame(
-    rt: &impl Abort,
-    alloc: Global,
-    reply: Reply,
-    spelled: &[u8],
-) -> Result<(), Fail>
+fn assert_frame(rt: &impl Abort, alloc: Global, reply: Reply, spelled: &[u8]) -> Result<(), Fail>
     requires { HasFrame reply }
 {
     let mut frame = Vec::new(alloc);
