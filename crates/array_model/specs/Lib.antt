@@ -8,7 +8,9 @@ pub mod Shelf
 pub mod Drives
 pub mod Payload
 pub mod Reading
+pub mod Possible
 pub mod Enough
+pub mod Possible
 pub mod Cleaning
 pub mod NeedLaws
 pub mod Kept
