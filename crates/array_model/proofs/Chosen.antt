@@ -112,7 +112,7 @@ module _ (read : ℕ → ReadSet) (own : (id : ℕ) → (read id).id ≡ id) whe
 carrier_read : (read : ℕ → ReadSet) (ids : List ℕ) (id : ℕ) → HasCarrier (map read ids) id → (other : ℕ) × Among other ids × ((read other).id ≡ id) × (0 < (read other).carriers)
 carrier_read read [] id has = absurd has
 carrier_read read (other ∷ ids) id (inl here) = (other, inl refl, here.0, here.1)
-carrier_read read (other ∷ ids) id (inr later) = let there = carrier_read read ids id later in (there.0, inr there.1, there.2)
+carrier_read read (other ∷ ids) id (inr later) = let there = carrier_read read ids id later in (there.0, inr there.1, there.2, there.3)
 
 -- and the other way round,
 pub read_has_carrier : (read : ℕ → ReadSet) (ids : List ℕ) (id : ℕ) → Among id ids → 0 < (read id).carriers → HasCarrier (map read ids) (read id).id
@@ -124,7 +124,7 @@ read_has_carrier read (other ∷ ids) id (inr later) some = inr (read_has_carrie
 pub carrier_of_more : (read : ℕ → ReadSet) (some ids : List ℕ) → ((id : ℕ) → Among id some → Among id ids) → (id : ℕ) → HasCarrier (map read some) id → HasCarrier (map read ids) id
 carrier_of_more read some ids are id has =
     let there = carrier_read read some id has in
-    subst (HasCarrier (map read ids)) there.2.0 (read_has_carrier read ids there.0 (are there.0 there.1) there.2.1)
+    subst (HasCarrier (map read ids)) there.2 (read_has_carrier read ids there.0 (are there.0 there.1) there.3)
 
 pub among_read : (read : ℕ → ReadSet) (ids : List ℕ) (id : ℕ) → Among id ids → Among (read id) (map read ids)
 among_read read [] id found = absurd found
@@ -134,14 +134,14 @@ among_read read (other ∷ ids) id (inr later) = inr (among_read read ids id lat
 -- A valid set has k carriers.
 pub valid_set_carriers : (read : ℕ → ReadSet) → ((id : ℕ) → (read id).id ≡ id) → (k : ℕ) (ids : List ℕ) (set : ValidSet) → Among set (valid k (map read ids)) → k ≤ (read set.id).carriers
 valid_set_carriers read own k [] set found = absurd found
-valid_set_carriers read own k (id ∷ ids) set found = at_one (stands k (read id)) refl found
+valid_set_carriers read own k (id ∷ ids) set found = at_one (stands k (read id)) refl (valid_set_carriers read own k ids set) found
   where
     above : List ReadSet
     above = map read ids
 
-    at_one : (b : Bool) → stands k (read id) ≡ b → Among set (cond b (record { id = (read id).id; records = cut_to (kept_by (read id).id (valid k above)) (read id).records } ∷ valid k above) (valid k above)) → k ≤ (read set.id).carriers
-    at_one true stood (inl here) =
+    at_one : (b : Bool) → stands k (read id) ≡ b → (Among set (valid k above) → k ≤ (read set.id).carriers) → Among set (cond b (record { id = (read id).id; records = cut_to (kept_by (read id).id (valid k above)) (read id).records } ∷ valid k above) (valid k above)) → k ≤ (read set.id).carriers
+    at_one true stood again (inl here) =
         let mine : set.id ≡ id = sym (ap (λ (s : ValidSet). s.id) here) ∙ own id in
         subst (λ n. k ≤ (read n).carriers) (sym mine) (standing_carriers k (read id) stood)
-    at_one true stood (inr later) = valid_set_carriers read own k ids set later
-    at_one false fell found = valid_set_carriers read own k ids set found
+    at_one true stood again (inr later) = again later
+    at_one false fell again found = again found

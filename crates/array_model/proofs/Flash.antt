@@ -4,10 +4,9 @@ use Rattle.std.specs.Prelude.{not, filter}
 use Rattle.std.specs.List.{AllByRecursion, range_with_len}
 use Rattle.std.proofs.lemmas.Bool.{ne_eqb, or_from}
 use Rattle.zone_bay.specs.Contents.{Shape, Contents}
-use Rattle.array_model.specs.Drives.{drives_of, is_among, is_present, present, places_on}
+use Rattle.array_model.specs.Drives.{drives_of, is_among, is_present, present, places_on, outside}
 use Rattle.array_model.specs.Reading.{carriers_of, ids_at}
 use Rattle.array_model.specs.Possible.{set_by, places_in}
-use Rattle.array_model.specs.Enough.{outside}
 use Rattle.array_model.specs.ReadingLaws.{FlashMayLeave}
 use Rattle.array_model.proofs.Chosen.{taken_length, chosen_taken, needed_is_read}
 use Rattle.array_model.proofs.SameZones.{all-map}

@@ -1,5 +1,5 @@
 -- What is left of a kept array where drives left with enough: it shows what a kept array shows.
-use Rattle.std.proofs.Common.{◌≡◌, ℕ, ◌<◌, ◌≤◌, Bool, true, false, cond, inl, inr, List, [], ◌∷◌, ◌++◌, length, map, Option, Some, None, Contains, refl, sym, ap, ap₂, ◌∙◌, subst, arith}
+use Rattle.std.proofs.Common.{◌≡◌, ℕ, ◌+◌, ◌<◌, ◌≤◌, Bool, true, false, cond, inl, inr, List, [], ◌∷◌, ◌++◌, length, map, Option, Some, None, Contains, refl, sym, ap, ap₂, ◌∙◌, subst, arith}
 use Rattle.std.specs.Prelude.{◌&&◌, ◌||◌, not, is_some}
 use Rattle.std.specs.List.{AllByRecursion, filter_map, cons_option}
 use Rattle.std.proofs.lemmas.Bool.{and_parts}
@@ -10,7 +10,7 @@ use Rattle.marker_format.specs.declared.marker.Marker.{Marker}
 use Rattle.marker_format.specs.Zone.{Array, whole_records, end_from}
 use Rattle.marker_format.specs.Fragment.{fragment_at}
 use Rattle.array_model.specs.Payload.{fragment_of}
-use Rattle.array_model.specs.Drives.{Place, bytes_at, records_at, head_at, is_among, is_of, first_of, label_on, labels, present, places_on}
+use Rattle.array_model.specs.Drives.{Place, bytes_at, records_at, head_at, is_among, is_of, first_of, label_on, labels, present, places_on, outside}
 use Rattle.array_model.specs.Reading.{Carrier, carriers_of, IsPrefixAlike, agreed, fragment_on, set_from, with_head, ids_at}
 use Rattle.array_model.specs.Record.{Record}
 use Rattle.array_model.specs.Sets.{ReadSet, ValidSet, stands, kept_by, valid, records_of}
@@ -18,8 +18,8 @@ use Rattle.array_model.specs.Map.{items_of, map_of}
 use Rattle.array_model.specs.Need.{IsNeeded}
 use Rattle.array_model.specs.SetLaws.{SaysTheSame}
 use Rattle.array_model.specs.Possible.{Choice, AreChosen, IsChoice, set_by, reading_by, places_in, read_by}
-use Rattle.array_model.specs.Enough.{outside, IsEnough}
-use Rattle.array_model.specs.Kept.{AreCopies, HaveOneList, HaveOnePayload, HavePayloads, carriers_in, IndexesAreAlone, ClosedStand, OneIsUnsettled, is_unsettled, CutsKeepReady, CutsFit, IsKeptReading, LabelsAreOf, EachZone, ShowsKept}
+use Rattle.array_model.specs.Enough.{IsEnough}
+use Rattle.array_model.specs.Kept.{AreCopies, HaveOneList, HaveOnePayload, HavePayloads, carriers_in, IndexesAreAlone, ClosedStand, OneIsUnsettled, is_unsettled, CutsKeepReady, CutsFit, IsKeptReading, LabelsAreOf, EndsAreFound, TakesFewer, EachZone, ShowsKept}
 use Rattle.array_model.specs.RemovalLaws.{AllowsRemovals, PossibleMapWas, NeededSetWas, RemovalsStayAllowed, RemovalShowsKept}
 use Rattle.array_model.proofs.Records.{Among, among_from_contains, contains_from_among, all_among}
 use Rattle.array_model.proofs.Sets.{standing_carriers}
@@ -116,7 +116,7 @@ module _ (array : Array) (shape : Shape) (held : Contents) (leaving : List ℕ) 
     abbrev k : ℕ
     k = array.geometry.k
 
-    chosen : IsChoice array held others choice
+    abbrev chosen : IsChoice array held others choice
     chosen = choice_left choice is
 
     abbrev was : Choice
@@ -283,12 +283,14 @@ possible_map_was array shape uploads held leaving objects allows enough (choice,
 )
 
 pub needed_set_was : NeededSetWas
-needed_set_was array shape uploads held leaving set allows enough (choice, is, it, needed, own) = (
+needed_set_was array shape uploads held leaving set allows enough (choice, is, (it, needed, own)) = (
   before array shape held leaving allows.alone choice (choice_left array shape held leaving choice is),
   before_is array shape held leaving allows.alone choice (choice_left array shape held leaving choice is),
-  it,
-  (says array shape held leaving uploads allows enough choice is).needed it (subst (λ sets. IsNeeded array.geometry.k uploads sets it) (reading_then array shape held leaving choice is) needed),
-  own,
+  (
+    it,
+    (says array shape held leaving uploads allows enough choice is).needed it (subst (λ sets. IsNeeded array.geometry.k uploads sets it) (reading_then array shape held leaving choice is) needed),
+    own,
+  ),
 )
 
 pub removals_stay_allowed : RemovalsStayAllowed
@@ -304,7 +306,7 @@ removal_shows_kept array shape uploads held leaving shows enough =
       lists = lists_then array shape held leaving shows.alone shows.lists;
       readings = λ choice is. reading_kept array shape held leaving uploads allows enough choice is (shows.readings _ (was_is array shape held leaving uploads allows enough choice is));
       labels = λ l found. shows.labels l (labels_then array shape held leaving l found);
-      ends = zones_then array shape held leaving _ shows.ends;
-      blocks = zones_then array shape held leaving _ shows.blocks;
+      ends = zones_then array shape held leaving (EndsAreFound array) shows.ends;
+      blocks = zones_then array shape held leaving (TakesFewer array shape.blocks) shows.blocks;
       alone = alone_then array shape held leaving shows.alone;
     }

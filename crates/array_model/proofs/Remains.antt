@@ -4,10 +4,10 @@ use Rattle.zone_bay.specs.Contents.{Shape, Contents}
 use Rattle.zone_bay.specs.Images.{without_each}
 use Rattle.smore_base.specs.Objects.{Map}
 use Rattle.marker_format.specs.Zone.{Array}
-use Rattle.array_model.specs.Drives.{present, places_on}
+use Rattle.array_model.specs.Drives.{present, places_on, outside}
 use Rattle.array_model.specs.Reading.{carriers_of, read_set, ids_at}
 use Rattle.array_model.specs.Possible.{set_by, places_in, IsPossibleMap}
-use Rattle.array_model.specs.Enough.{outside, IsEnough, IsLeftAfter, IsRemains}
+use Rattle.array_model.specs.Enough.{IsEnough, IsLeftAfter, IsRemains}
 use Rattle.array_model.specs.Kept.{ShowsKept}
 use Rattle.array_model.specs.RemovalLaws.{FewMissingAreEnough, AllowsRemovals, MapIsPossible, OneRemoval, ImageRemains, RemovalLeavesRemains, RemainsFollow, RemainsMapWas, RemainsHavePossibleMaps, WhatShowsIsKept}
 use Rattle.array_model.proofs.Records.{Among, contains_from_among}

@@ -10,7 +10,7 @@ use Rattle.std.proofs.lemmas.Bool.{and_parts, eqb-true, leb-true, le-leb}
 use Rattle.zone_bay.specs.Contents.{Shape, Contents}
 use Rattle.marker_format.specs.declared.marker.Marker.{Marker}
 use Rattle.marker_format.specs.Zone.{Array}
-use Rattle.array_model.specs.Drives.{Place, is_of, head_at, present, places_on}
+use Rattle.array_model.specs.Drives.{Place, is_of, head_at, present, places_on, outside}
 use Rattle.array_model.specs.Reading.{Carrier, carrier_of, fragments_of, carriers_of, ids_at}
 use Rattle.array_model.specs.Record.{Record, Put, Delete, note_stamp}
 use Rattle.array_model.specs.Sets.{ReadSet, ValidSet, stands, cut_to, kept_by, valid, placed, records_of}
@@ -18,7 +18,7 @@ use Rattle.array_model.specs.Map.{items_of}
 use Rattle.array_model.specs.Need.{IsNeededSet}
 use Rattle.array_model.specs.SetLaws.{NotesAreOne, AreEnough, SaysTheSame}
 use Rattle.array_model.specs.Possible.{AreTaken, Choice, AreChosen, IsChoice, set_by, reading_by}
-use Rattle.array_model.specs.Enough.{outside, IsEnough}
+use Rattle.array_model.specs.Enough.{IsEnough}
 use Rattle.array_model.specs.Kept.{stamp_of, AreCopies, IndexesAreAlone, AreEverCopies}
 use Rattle.array_model.proofs.Records.{Among}
 use Rattle.array_model.proofs.Sets.{standing_carriers}
@@ -98,7 +98,7 @@ module _ (array : Array) (shape : Shape) (held : Contents) (leaving : List ℕ) 
       read_by_head array held places_now id head.0 (place_was shape leaving (present shape held []) head.0 head.1) head.2
 
   -- So nothing is read from them where nothing was.
-  none_left : numbers_now ≡ [] → numbers_left ≡ []
+  pub none_left : numbers_now ≡ [] → numbers_left ≡ []
   none_left none = none_of numbers_left (λ id found. subst (λ those. Among id those) none (left_was_read id found))
     where
       none_of : (those : List ℕ) → ((id : ℕ) → Among id those → ⊥) → those ≡ []
@@ -120,7 +120,7 @@ module _ (array : Array) (shape : Shape) (held : Contents) (leaving : List ℕ) 
     k = array.geometry.k
 
     -- The carriers on the drives that stay are some of the carriers, and so are the chosen ones.
-    left_taken : (id : ℕ) → AreTaken (carriers_left id) (carriers_now id)
+    pub left_taken : (id : ℕ) → AreTaken (carriers_left id) (carriers_now id)
     left_taken id = taken_found (carrier_of array held places_left id) (carrier_of array held places_now id) (range_with_len 0 (fragments_of array)) (λ index c e. carrier_was array shape held leaving alone id index c e)
 
     pub few_left : (id : ℕ) → length (choice id) ≤ length (carriers_left id)
@@ -131,7 +131,7 @@ module _ (array : Array) (shape : Shape) (held : Contents) (leaving : List ℕ) 
     keeps id = nat_le k (length (carriers_left id))
 
     -- The choice of before: the same carriers of the sets that keep k, and all of the others.
-    pub before : Choice
+    abbrev pub before : Choice
     before id = cond (keeps id) (choice id) (carriers_now id)
 
     pub before_kept : (id : ℕ) → k ≤ length (choice id) → before id ≡ choice id

@@ -141,16 +141,14 @@ module _ (k : ℕ) (uploads : List ℕ) (all : List ReadSet) (some : 0 < k) wher
   valid_from [] [] before is there lose enough it found = found
   valid_from [] (set' ∷ new) before is there lose enough it found = absurd lose
   valid_from (set ∷ old) [] before is there lose enough it found = absurd lose
-  valid_from (set ∷ old) (set' ∷ new) before is there lose enough it found = at_both (stands k set) refl (stands k set') refl found
+  valid_from (set ∷ old) (set' ∷ new) before is there lose enough it found =
+      at_both (λ ahead is'. valid_from old new ahead is' (λ id has. there id (inr has)) lose.1 enough.1 it) (stands k set) refl (stands k set') refl found
     where
       mine : ValidSet
       mine = record { id = set.id; records = cut_to (kept_by set.id (valid k old)) set.records }
 
       its : ValidSet
       its = record { id = set'.id; records = cut_to (kept_by set'.id (valid k new)) set'.records }
-
-      later : (ahead : List Placed) → records_of k all ≡ ahead ++ records_of k old → Among it (valid k new) → Among it (valid k old)
-      later ahead is' found = valid_from old new ahead is' (λ id has. there id (inr has)) lose.1 enough.1 it found
 
       same : stands k set' ≡ true → (ahead : List Placed) → records_of k all ≡ ahead ++ records_of k old → 0 < set.carriers → its ≡ mine
       same still ahead is' has =
@@ -162,14 +160,14 @@ module _ (k : ℕ) (uploads : List ℕ) (all : List ReadSet) (some : 0 < k) wher
       ahead_of : stands k set ≡ true → records_of k all ≡ (before ++ cut_records k set old) ++ records_of k old
       ahead_of was = is ∙ ap (λ r. before ++ r) (read_standing k set old was) ∙ sym (append_assoc before (cut_records k set old) (records_of k old))
 
-      at_both : (b : Bool) → stands k set ≡ b → (b' : Bool) → stands k set' ≡ b' → Among it (cond b' (its ∷ valid k new) (valid k new)) → Among it (cond b (mine ∷ valid k old) (valid k old))
-      at_both true was true still (inl here) =
+      at_both : ((ahead : List Placed) → records_of k all ≡ ahead ++ records_of k old → Among it (valid k new) → Among it (valid k old)) → (b : Bool) → stands k set ≡ b → (b' : Bool) → stands k set' ≡ b' → Among it (cond b' (its ∷ valid k new) (valid k new)) → Among it (cond b (mine ∷ valid k old) (valid k old))
+      at_both later true was true still (inl here) =
           let many = standing_carriers k set was in
           inl (sym (same still (before ++ cut_records k set old) (ahead_of was) (omega (arith, some, many))) ∙ here)
-      at_both true was true still (inr found) = inr (later (before ++ cut_records k set old) (ahead_of was) found)
-      at_both true was false falls found = inr (later (before ++ cut_records k set old) (ahead_of was) found)
-      at_both false fell true still found = absurd (true≢false (sym (lose.0.stood still) ∙ fell))
-      at_both false fell false falls found = later before (is ∙ ap (λ r. before ++ r) (read_fallen k set old fell)) found
+      at_both later true was true still (inr found) = inr (later (before ++ cut_records k set old) (ahead_of was) found)
+      at_both later true was false falls found = inr (later (before ++ cut_records k set old) (ahead_of was) found)
+      at_both later false fell true still found = absurd (true≢false (sym (lose.0.stood still) ∙ fell))
+      at_both later false fell false falls found = later before (is ∙ ap (λ r. before ++ r) (read_fallen k set old fell)) found
 
 pub valid_was : (k : ℕ) (uploads : List ℕ) (old new : List ReadSet) → 0 < k → AllLose k old new → AreEnough k uploads old new → (it : ValidSet) → Among it (valid k new) → Among it (valid k old)
 valid_was k uploads old new some lose enough it found = valid_from k uploads old some old new [] refl (λ id has. has) lose enough it found

@@ -1,9 +1,9 @@
 -- Which drives may leave an array, and what remains then.
-use Rattle.std.specs.Prelude.{◌≡◌, ℕ, ◌≤◌, Bool, ◌&&◌, ◌||◌, not, List, [], ◌∷◌, length, filter, is_some}
+use Rattle.std.specs.Prelude.{◌≡◌, ℕ, ◌≤◌, Bool, ◌&&◌, ◌||◌, List, [], ◌∷◌, length, is_some}
 use Rattle.zone_bay.specs.Contents.{Shape, Contents}
 use Rattle.zone_bay.specs.Images.{without_each}
 use Rattle.marker_format.specs.Zone.{Array}
-use Rattle.array_model.specs.Drives.{is_among, present, places_on}
+use Rattle.array_model.specs.Drives.{outside, present, places_on}
 use Rattle.array_model.specs.Reading.{carriers_of}
 use Rattle.array_model.specs.Sets.{ReadSet, stands, valid, kept_by}
 use Rattle.array_model.specs.Possible.{IsEverNeeded}
@@ -13,10 +13,6 @@ use Rattle.array_model.specs.Possible.{IsEverNeeded}
 -- come to stand.
 abbrev pub is_settled : ℕ → List ReadSet → ReadSet → Bool
 is_settled k sets set = stands k set && (is_some (kept_by set.id (valid k sets)) || set.closed)
-
--- the drives that don't leave
-abbrev pub outside : List ℕ → List ℕ → List ℕ
-outside leaving drives = filter (λ drive. not (is_among leaving drive)) drives
 
 -- Enough carriers stay where drives leave: each set that is ever needed keeps k. The uploads are those in progress and those
 -- that are read.

@@ -10,7 +10,6 @@ pub mod Payload
 pub mod Reading
 pub mod Possible
 pub mod Enough
-pub mod Possible
 pub mod Cleaning
 pub mod NeedLaws
 pub mod Kept

@@ -15,7 +15,7 @@ use Rattle.array_model.specs.Reading.{Carrier, carrier_of, fragments_of, carrier
 use Rattle.array_model.specs.Record.{is_ready}
 use Rattle.array_model.specs.Sets.{AreRising, stands, records_of}
 use Rattle.array_model.specs.Possible.{IsPossibleMap}
-use Rattle.array_model.specs.Enough.{IsEnough}
+use Rattle.array_model.specs.Enough.{IsEnough, IsRemains}
 use Rattle.array_model.specs.Kept.{HaveOneList, HaveOnePayload, HavePayloads, IsKept, IsFormatted}
 use Rattle.smore_base.specs.Objects.{Map}
 use Rattle.std.specs.FinMap as finmap

@@ -4,13 +4,13 @@ use Rattle.smore_base.specs.Objects.{Map}
 use Rattle.zone_bay.specs.Contents.{Shape, Contents}
 use Rattle.zone_bay.specs.Images.{without_each}
 use Rattle.marker_format.specs.Zone.{Array}
-use Rattle.array_model.specs.Drives.{Place, present, places_on}
+use Rattle.array_model.specs.Drives.{Place, present, places_on, outside}
 use Rattle.array_model.specs.Reading.{read_set, missing, reading, read_of}
 use Rattle.array_model.specs.Sets.{ReadSet}
 use Rattle.array_model.specs.Map.{map_of}
 use Rattle.array_model.specs.SetLaws.{CutsAreOfLower}
 use Rattle.array_model.specs.Possible.{Choice, IsChoice, reading_by, IsPossibleMap, IsEverNeeded}
-use Rattle.array_model.specs.Enough.{outside, IsEnough, IsRemains}
+use Rattle.array_model.specs.Enough.{IsEnough, IsRemains}
 use Rattle.array_model.specs.Kept.{IndexesAreAlone, AreEverCopies, ShowsKept, IsKept}
 
 -- Each valid cut that is read is of a lower set than the one that it stands in,
