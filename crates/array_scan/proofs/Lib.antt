@@ -18,4 +18,4 @@ pub mod ReadObjects
 pub mod NamedObjects
 pub mod NeededRecords
 pub mod MixedLabels
-pub mod EnoughBeside
+pub mod KeptCarriers

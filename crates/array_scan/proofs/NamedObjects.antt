@@ -25,7 +25,7 @@ use Rattle.array_scan.specs.SetRead.{array_by, FitsBay}
 use Rattle.array_scan.specs.Judged.{Payloads, set_with, sets_with, valid_with}
 use Rattle.array_scan.specs.Valid.{placed_with, items_with, IsOfStanding}
 use Rattle.array_scan.specs.Objects.{IsReadable}
-use Rattle.array_scan.specs.Enough.{IsEnoughOn}
+use Rattle.array_scan.specs.Enough.{EachKeepsOn}
 use Rattle.array_scan.specs.Scan.{k_of, indexes_of, payload_held, AreSetsOf, AreInBay, IsScanOf, IsInBay, array_read, sets_on, sets_read, map_read, needed_read, placed_in}
 use Rattle.array_scan.proofs.ReadMap.{items_are, records_are, zeros}
 use Rattle.array_scan.proofs.ScannedSets.{first_names}
@@ -141,15 +141,15 @@ pub sets_in : (shape : Shape) (scan : Scan) (l : Label) → IsInBay shape scan �
 sets_in shape scan l is first = subst (λ (a : Option Array). AreInBay a shape scan.sets) (sym (first_names scan.drives.labels.items l first)) is.sets
 
 module _ (shape : Shape) (held : Contents) (away : List ℕ) (scan : Scan) (is : IsScanOf shape held away scan) (leaving : List ℕ) where
-  pub enough_named : (l : Label) → Some l ≡ slice_get scan.drives.labels.items 0 → (enough : Bool)
-      → (AreSetsOf (Some (array_by l)) shape held scan.drives.present.items scan.sets → IsTrue enough ↔ IsEnoughOn (Some (array_by l)) shape held scan.drives.present.items leaving)
-      → IsTrue enough ↔ IsEnoughOn (array_read shape held away) shape held (present shape held away) leaving
-  enough_named l first enough told =
+  pub kept_named : (l : Label) → Some l ≡ slice_get scan.drives.labels.items 0 → (enough : Bool)
+      → (AreSetsOf (Some (array_by l)) shape held scan.drives.present.items scan.sets → IsTrue enough ↔ EachKeepsOn (Some (array_by l)) shape held scan.drives.present.items leaving)
+      → IsTrue enough ↔ EachKeepsOn (array_read shape held away) shape held (present shape held away) leaving
+  kept_named l first enough told =
       let named = read_is shape held away scan is [] (Some (array_by l)) (sym (first_names scan.drives.labels.items l first)) in
-      subst (λ (a : Option Array). IsTrue enough ↔ IsEnoughOn a shape held (present shape held away) leaving) (sym named)
-      (subst (λ (ds : List ℕ). IsTrue enough ↔ IsEnoughOn (Some (array_by l)) shape held ds leaving) is.present_are
+      subst (λ (a : Option Array). IsTrue enough ↔ EachKeepsOn a shape held (present shape held away) leaving) (sym named)
+      (subst (λ (ds : List ℕ). IsTrue enough ↔ EachKeepsOn (Some (array_by l)) shape held ds leaving) is.present_are
       (told (subst (λ (ds : List ℕ). AreSetsOf (Some (array_by l)) shape held ds scan.sets) (sym is.present_are) (subst (λ (a : Option Array). AreSetsOf a shape held (present shape held away) scan.sets) named is.sets_are))))
 
-  pub enough_none : None ≡ slice_get scan.drives.labels.items 0 → IsTrue true ↔ IsEnoughOn (array_read shape held away) shape held (present shape held away) leaving
-  enough_none none =
-      subst (λ (a : Option Array). IsTrue true ↔ IsEnoughOn a shape held (present shape held away) leaving) (sym (read_is shape held away scan is [] None (no_first scan.drives.labels.items none))) (λ e. tt, λ u. refl)
+  pub kept_none : None ≡ slice_get scan.drives.labels.items 0 → IsTrue true ↔ EachKeepsOn (array_read shape held away) shape held (present shape held away) leaving
+  kept_none none =
+      subst (λ (a : Option Array). IsTrue true ↔ EachKeepsOn a shape held (present shape held away) leaving) (sym (read_is shape held away scan is [] None (no_first scan.drives.labels.items none))) (λ e. tt, λ u. refl)

@@ -10,12 +10,12 @@ ghost use Rattle.array_model.specs.Reading.{missing};
 ghost use Rattle.array_scan.specs.Calls.{OnlyRead, lost_by};
 ghost use Rattle.array_scan.specs.Drives.{SaySame, HasTwo};
 ghost use Rattle.array_scan.specs.Judged.{Payloads, set_with};
-ghost use Rattle.array_scan.specs.Enough.{IsEnoughOn};
+ghost use Rattle.array_scan.specs.Enough.{EachKeepsOn};
 ghost use Rattle.array_scan.specs.Objects.{Tells, value_by};
 ghost use Rattle.array_scan.specs.Scan.{IsScanOf, IsInBay, array_read, map_read, placed_in, needed_read};
 
 use crate::drives::Drives;
-use crate::enough::is_enough_beside;
+use crate::enough::keep_carriers;
 use crate::needed::needed_of;
 use crate::object::{Object, read_object};
 use crate::objects::{What, map_by};
@@ -107,22 +107,22 @@ impl Scan {
         needed_of(alloc, bay, &code, &self.sets)
     }
 
-    /// Whether enough carriers stay where these drives leave: each set with a record that is needed, now or beside them, keeps
-    /// k carriers (`docs/RULES.md`, "Enough"). It reads the bay that was scanned. Where a device fails, it gives up.
-    pub fn is_enough_beside<B: Bay>(
+    /// Whether each set that is read has k carriers on the drives that stay where these leave. Then they leave with enough
+    /// (`docs/RULES.md`, "Enough"). It reads the bay that was scanned. Where a device fails, it gives up.
+    pub fn keeps_carriers<B: Bay>(
         &self,
         alloc: Global,
         bay: &mut B,
         leaving: &[u8],
     ) -> Result<bool, ScanRefusal>
         requires { IsInBay (B.state bay.old).shape self.now }
-        ensures enough { IfSome (B.state bay.old).contents (λ held. IfOk result (λ enough. (away : List ℕ)
-            → let shape = (B.state bay.old).shape in IsScanOf shape held away self.now → IsTrue enough
-            ↔ IsEnoughOn (array_read shape held away) shape held (present shape held away) leaving.now)) }
+        ensures kept { IfSome (B.state bay.old).contents (λ held. IfOk result (λ kept. (away : List ℕ)
+            → let shape = (B.state bay.old).shape in IsScanOf shape held away self.now → IsTrue kept
+            ↔ EachKeepsOn (array_read shape held away) shape held (present shape held away) leaving.now)) }
         ensures reads { OnlyRead (B.state bay.old) (B.state bay.new) (lost_by result) }
     {
         match self.label() {
-            Some(label) => is_enough_beside(
+            Some(label) => keep_carriers(
                 alloc,
                 bay,
                 label,

@@ -65,7 +65,7 @@ type Zone = (u8, u16, u64, u8, &'static [Row]);
 
 /// Zones, the devices that are away, and what the scan says: of each set the number, the carriers and the valid records; of
 /// the names a and b the bytes of the object, 100 and the part for a broken one, or 200 for none; the needed records as 100
-/// times the set and the position; and whether drive 0 may leave.
+/// times the set and the position; and whether each set keeps k carriers without drive 0.
 const ARRAYS: [(&[Zone], &[u8], &[u64]); 15] = [
     // nothing but labels
     (&[], &[], &[200, 200, 1]),
@@ -91,7 +91,7 @@ const ARRAYS: [(&[Zone], &[u8], &[u64]); 15] = [
     (
         &[(0, 2, 1, 0, FOUR), (1, 2, 1, 1, FOUR), (2, 2, 1, 2, THREE)],
         &[0, 2],
-        &[1, 1, 0, 200, 200, 1],
+        &[1, 1, 0, 200, 200, 0],
     ),
     // a delete that a higher set cuts off
     (
@@ -115,7 +115,7 @@ const ARRAYS: [(&[Zone], &[u8], &[u64]); 15] = [
             (2, 3, 2, 1, &[HEAD, CUT_TO_0, READY]),
         ],
         &[],
-        &[1, 2, 0, 2, 2, 3, 200, 200, 201, 1],
+        &[1, 2, 0, 2, 2, 3, 200, 200, 201, 0],
     ),
     // no ready record
     (
@@ -124,7 +124,7 @@ const ARRAYS: [(&[Zone], &[u8], &[u64]); 15] = [
             (1, 2, 1, 1, &[HEAD, PART, PUT]),
         ],
         &[],
-        &[1, 2, 0, 200, 200, 1],
+        &[1, 2, 0, 200, 200, 0],
     ),
     // three zones of one index, on one drive and on another
     (
@@ -146,7 +146,7 @@ const ARRAYS: [(&[Zone], &[u8], &[u64]); 15] = [
             (2, 3, 2, 1, &[HEAD, READY, NEW_PART, NEW_PUT, DELETE_B]),
         ],
         &[],
-        &[1, 2, 5, 2, 2, 5, 5, 200, 202, 203, 204, 1],
+        &[1, 2, 5, 2, 2, 5, 5, 200, 202, 203, 204, 0],
     ),
     // a copy of a note
     (
@@ -179,7 +179,7 @@ const ARRAYS: [(&[Zone], &[u8], &[u64]); 15] = [
             (2, 4, 3, 1, &[HEAD, CUT_TO_0, READY]),
         ],
         &[],
-        &[1, 2, 0, 2, 2, 3, 3, 2, 3, 200, 200, 301, 1],
+        &[1, 2, 0, 2, 2, 3, 3, 2, 3, 200, 200, 301, 0],
     ),
     // a rebuilt zone with its trailer
     (
@@ -197,7 +197,7 @@ const ARRAYS: [(&[Zone], &[u8], &[u64]); 15] = [
             (2, 2, 1, 2, &[REBUILT, READY, PART, PUT]),
         ],
         &[],
-        &[1, 1, 0, 200, 200, 1],
+        &[1, 1, 0, 200, 200, 0],
     ),
 ];
 
@@ -320,7 +320,7 @@ fn told<B: Bay>(alloc: Global, bay: &mut B, away: &[u8]) -> Result<Vec<u64>, Fai
         let place = valid.set.id.saturating_mul(100);
         told.push(place.saturating_add(valid.position as u64))?;
     }
-    told.push(u64::from(scan.is_enough_beside(alloc, bay, &[0])?))?;
+    told.push(u64::from(scan.keeps_carriers(alloc, bay, &[0])?))?;
     Ok(told)
 }
 

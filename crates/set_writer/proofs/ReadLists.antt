@@ -13,7 +13,6 @@ use Rattle.array_model.specs.ReadingLaws.{is_of_set}
 use Rattle.array_model.specs.Sets.{ReadSet}
 use Rattle.array_model.proofs.Carriers.{carries_some}
 use Rattle.array_model.proofs.Records.{Among, among_from_contains, contains_from_among}
-use Rattle.array_model.proofs.Removal.{among_map}
 use Rattle.array_model.proofs.SameZones.{head_is_whole}
 use Rattle.array_model.proofs.SetsRead.{HasHeadOf, head_of_read, read_by_head}
 use Rattle.set_writer.specs.ImageLaws.{places_of}
@@ -67,6 +66,11 @@ none_left [] none = refl
 none_left (x ∷ xs) none = absurd (none (omega arith))
 
 -- what is among mapped ones is of one of them
+among_map : {A B : Type 0} (f : A → B) (xs : List A) (x : A) → Among x xs → Among (f x) (map f xs)
+among_map f [] x there = absurd there
+among_map f (y ∷ xs) x (inl same) = inl (ap f same)
+among_map f (y ∷ xs) x (inr later) = inr (among_map f xs x later)
+
 among_mapped : {A B : Type 0} (f : A → B) (xs : List A) (y : B) → Among y (map f xs) → (x : A) × Among x xs × (f x ≡ y)
 among_mapped f [] y there = absurd there
 among_mapped f (x ∷ xs) y (inl same) = (x, inl refl, same)

@@ -1,8 +1,8 @@
 use Rattle.std.proofs.Common.{◌<◌, ℕ, true, false, List, sym, ap, ◌∙◌, subst, arith}
 use Rattle.std.specs.List.{AllByRecursion}
 use Rattle.std.proofs.lemmas.List.{take_all}
-use Rattle.array_model.specs.Enough.{outside}
-use Rattle.array_scan.proofs.EnoughBeside.{outside_more, outside_within}
+use Rattle.array_model.specs.Drives.{outside}
+use Rattle.array_scan.proofs.KeptCarriers.{outside_more, outside_within}
 use Rattle.array_scan.proofs.enough.outside.Goals as goal
 use Rattle.array_scan.proofs.enough.outside.Goals.{then-not-contains+in_ok-push, else-not-contains}
 
