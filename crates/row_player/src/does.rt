@@ -124,11 +124,7 @@ impl Does {
     pub(crate) fn is_image(self) -> bool {
         matches!(
             self,
-            Does::CrashFirm
-                | Does::CrashAll
-                | Does::CrashShort
-                | Does::Without
-                | Does::WithoutEach
+            Does::CrashFirm | Does::CrashAll | Does::CrashShort | Does::Without | Does::WithoutEach
         )
     }
 
@@ -145,6 +141,14 @@ impl Does {
                 | Does::SetReserve
                 | Does::SetRead
                 | Does::SetReadOf
+        )
+    }
+
+    /// Whether a stop asks which calls append.
+    pub fn stops(self) -> bool {
+        matches!(
+            self,
+            Does::EachCallStops | Does::StopInAppend | Does::StopInAppendOf
         )
     }
 

@@ -57,7 +57,11 @@ fn drawn_out<'a>(
 ) -> Result<Option<Vec<&'a str>>, Fault> {
     let mut words = words_of(alloc, form)?;
     let Some(dots) = dots_of(&words) else {
-        return Ok(if words.len() == count { Some(words) } else { None });
+        return Ok(if words.len() == count {
+            Some(words)
+        } else {
+            None
+        });
     };
     let (front, rest) = words.split_at(dots.min(words.len()));
     let (_, behind) = rest.split_at(rest.len().min(1));
@@ -71,7 +75,11 @@ fn drawn_out<'a>(
         drawn.extend_from_slice(again)?;
     }
     drawn.extend_from_slice(behind)?;
-    Ok(if drawn.len() == count { Some(drawn) } else { None })
+    Ok(if drawn.len() == count {
+        Some(drawn)
+    } else {
+        None
+    })
 }
 
 /// Whether the words are those of the form, whatever stands for its values.

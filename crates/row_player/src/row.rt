@@ -206,11 +206,7 @@ fn take_text(reader: &mut Reader, number: usize, text: &str) -> Result<(), Fault
 }
 
 /// The rows of a file's text; at a fault the number of its line.
-pub fn rows_of(
-    alloc: Global,
-    language: Language,
-    text: &str,
-) -> Result<Vec<Row>, (usize, Fault)> {
+pub fn rows_of(alloc: Global, language: Language, text: &str) -> Result<Vec<Row>, (usize, Fault)> {
     let mut reader = Reader {
         alloc,
         language,

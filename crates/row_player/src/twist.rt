@@ -95,7 +95,7 @@ fn add_stops(twists: &mut Vec<Twist>, appends: &[u64]) -> Result<(), Fault> {
 }
 
 /// The ways in which a variation plays again what made these appends: so many bytes by each call, which of most are none.
-/// `marks` are the moments behind its requests, and `input` is the longest input of a run.
+/// `marks` are the moments behind its requests, and `input` is how long the inputs of its runs are.
 pub fn twists_of(
     alloc: Global,
     variation: &Line,
@@ -135,7 +135,10 @@ fn stop_of(line: &Line, appends: &[u64], marks: &[u64]) -> Twist {
         }
         Does::StopInAppendOf => {
             let begin = begin_of(marks, line.size(1));
-            Twist::Stops(append_of(appends, begin, line.number(0)), line.number_u32(2))
+            Twist::Stops(
+                append_of(appends, begin, line.number(0)),
+                line.number_u32(2),
+            )
         }
         Does::StopInCallOf => {
             let begin = begin_of(marks, line.size(1));

@@ -1,5 +1,5 @@
 use Rattle.array_scan.specs.Scan.{IsInBay}
-use Rattle.store_rows.proofs.plain.objects_of.Given as goal
+use Rattle.store_rows.proofs.said.objects_of.Given as goal
 
 abbrev pub invariant-loop-name : goal.invariant-loop-name
 invariant-loop-name g l =
