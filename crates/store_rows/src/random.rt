@@ -135,11 +135,11 @@ impl Draft {
         }
     }
 
-    /// How many lines stand in the text that are replies.
-    fn replies(&self) -> u64 {
+    /// How many lines of the text begin so.
+    fn count(&self, with: &str) -> u64 {
         let mut count = 0u64;
         for line in self.text.as_str().lines() {
-            if line.starts_with("= ") {
+            if line.starts_with(with) {
                 count = count.saturating_add(1);
             }
         }
@@ -147,13 +147,13 @@ impl Draft {
     }
 
     fn run(&mut self, dice: &mut Dice) -> Result<(), Fault> {
-        let before = self.replies();
+        let before = self.count("= ");
         self.line("run batch f")?;
         for _ in 0..dice.below(6) {
             self.call(dice)?;
         }
         self.line("stop")?;
-        let calls = self.replies().saturating_sub(before);
+        let calls = self.count("= ").saturating_sub(before);
         let end = format!(in self.alloc; "status 0 calls {calls} marks {calls}")?;
         self.line(&end)
     }
@@ -190,8 +190,9 @@ impl Draft {
         self.map()
     }
 
-    fn stop(&mut self, dice: &mut Dice) -> Result<(), Fault> {
-        let append = 1 + dice.below(3);
+    /// A stop in one of the first appends: each put makes one at least.
+    fn stop(&mut self, puts: u64, dice: &mut Dice) -> Result<(), Fault> {
+        let append = dice.below(puts).saturating_add(1);
         let bytes = dice.below(2048);
         let line = format!(in self.alloc; "stop in append {append} bytes {bytes}")?;
         self.line(&line)
@@ -207,9 +208,10 @@ impl Draft {
                 self.line("each call fails\nmap before or after")
             }
             2 => {
+                let before = self.count("put ");
                 self.run(dice)?;
                 self.put_alone()?;
-                self.stop(dice)?;
+                self.stop(self.count("put ").saturating_sub(before), dice)?;
                 self.line("map before or after\nrun batch f\nstop\nstatus 0 calls 0 marks 0")?;
                 self.line("each call stops\nmap before or after")
             }
