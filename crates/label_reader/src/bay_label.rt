@@ -74,7 +74,7 @@ pub fn read_bay_label<B: Bay>(bay: &mut B, device: u8) -> Result<Option<Label>, 
     ensures label { IfSome (B.state bay.old).contents
         (λ held. IfOk result (λ label. label ≡ label_on (B.state bay.old).shape held device)) }
     ensures within { IfOk result (λ label. IfSome label (λ l. IsWithinLimits l.geometry)) }
-    ensures shape { IfOk result (λ label. IfSome label (λ l. IsOfBay l.geometry)) (B.state bay.old).shape }
+    ensures shape { IfOk result (λ label. IfSome label (λ l. IsOfBay l.geometry (B.state bay.old).shape)) }
     ensures version { IfOk result (λ label. IfSome label (λ l. (l.version ≡ 1) × (l.device ≡ device))) }
     ensures reads { ReadsOn device (B.state bay.old) (B.state bay.new) result }
 {

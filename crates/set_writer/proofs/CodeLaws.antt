@@ -10,7 +10,7 @@ use Rattle.array_model.specs.Payload.{IsCode, AreFragments}
 use Rattle.set_writer.specs.Entry.{fragment}
 use Rattle.set_writer.specs.PayloadLaws.{fragments_for, FragmentsAreOfPayload}
 use Rattle.set_writer.proofs.FragmentLaws.{source_at, is_fragment}
-use Rattle.set_writer.proofs.ByteLaws.{joined_pieces}
+use Rattle.rs_code.proofs.Joined.{joined_pieces}
 
 concat-map : (g : ℕ → List ℕ) (xs : List ℕ) → concat (map g xs) ≡ flat_map g xs
 concat-map g [] = refl

@@ -10,6 +10,7 @@ use Rattle.std.proofs.lemmas.Grind.{div_ceil_times}
 use Rattle.smore_base.specs.Room.{payload_room, record_blocks, digest_blocks}
 use Rattle.marker_format.specs.declared.kind.Kind.TheVariants as kinds
 use Rattle.marker_format.specs.Marker.{IsMarker}
+use Rattle.marker_format.proofs.PlainMarkers.{filled_is}
 use Rattle.marker_format.specs.Zone.{belongs, blocks_of}
 use Rattle.array_model.specs.Reading.{fragments_of}
 use Rattle.set_writer.specs.Entry.{at_index, IsEntry}
@@ -56,31 +57,26 @@ module _ (w : Writer) (can : CanDigest w) where
   fragment_most part = ceil_below (length (part_of w part)) w.geometry.k w.geometry.shard can.within.k_from (part_most part)
 
   pub digest_is_marker : (part index : ℕ) → part < parts_of w → index < fragments_of (array_by w) → IsMarker (at_index index (digest_marker w part))
-  digest_is_marker part index below below' = let v = can.within in let r = can.records in let p = part_most part in let most = room_most in record {
-    kind = kinds.Digest;
-    coded = refl;
-    k_from = v.k_from;
-    k_to = let x = v.p_from in omega (arith, x);
-    n_to = v.fragments;
-    index_to = below';
-    fragment = refl;
-    fragment_to = let f = fragment_most part in let s = v.shard_to in omega (arith, f, s);
-    set_from = can.set_from;
-    set_to = can.set_to;
-    position_to = omega (arith, r, below);
-    stamp = refl;
-    stamp_to = omega arith;
-    upload = refl;
-    upload_to = omega arith;
-    payload = part_some part below;
-    name = tt;
-    counts = (below, refl);
-    part_to = omega (arith, r, below);
-    parts_to = omega (arith, r);
-    length_to = omega arith;
-    payload_to = omega (arith, p, most);
-    array = can.id;
-  }
+  digest_is_marker part index below below' = let v = can.within in let r = can.records in let p = part_most part in let most = room_most in
+      filled_is kinds.Digest (at_index index (digest_marker w part))
+      (record { k_from = v.k_from; k_to = (let x = v.p_from in omega (arith, x)); n_to = v.fragments; set_from = can.set_from; set_to = can.set_to; id = can.id }) below'
+      (record {
+        coded = refl;
+        fragment = refl;
+        fragment_to = let f = fragment_most part in let s = v.shard_to in omega (arith, f, s);
+        position_to = omega (arith, r, below);
+        stamp = refl;
+        stamp_to = omega arith;
+        upload = refl;
+        upload_to = omega arith;
+        payload = part_some part below;
+        payload_to = omega (arith, p, most);
+        name = tt;
+        counts = (below, refl);
+        part_to = omega (arith, r, below);
+        parts_to = omega (arith, r);
+        length_to = omega arith;
+      })
 
   digest_belongs : (part : ℕ) → belongs (array_by w) (digest_marker w part) ≡ true
   digest_belongs part =

@@ -16,6 +16,7 @@ use Rattle.marker_format.specs.declared.foot.Foot.{Foot}
 use Rattle.marker_format.specs.Kind.{code_of}
 use Rattle.marker_format.specs.Block.{foot_block}
 use Rattle.marker_format.specs.Zone.{Array, blocks_of, has_kind}
+use Rattle.marker_format.specs.Plain.{plain_of}
 use Rattle.set_digest.specs.Line.{spelling_of}
 use Rattle.set_digest.specs.Records.{line_of}
 use Rattle.set_table.specs.declared.zone_use.ZoneUse.TheVariants.{Empty, Carrier}
@@ -64,35 +65,15 @@ behind w m = record w { used = w.used + blocks_of m; records = w.records + 1; li
 unfoldable pub written : Writer → ℕ → List Entry → Writer
 written w set es = fold (λ w (e : Entry). behind w e.marker) (begun w set) es
 
--- a marker without what only some kinds have
-abbrev pub plain_marker : Array → ℕ → Kind → ℕ → Marker
-plain_marker array set kind position = record {
-  kind = code_of kind;
-  index = 0;
-  k = array.geometry.k;
-  n = array.geometry.k + array.geometry.p;
-  set = set;
-  position = position;
-  fragment = 0;
-  stamp = 0;
-  upload = 0;
-  part = 0;
-  parts = 0;
-  length = 0;
-  payload = 0;
-  array = array.id;
-  name = None;
-}
-
 -- a record without a payload
 abbrev pub bare : Marker → Entry
 bare m = record { marker = m; payload = [] }
 
 -- the marker of a first record of a set, at this position
 abbrev pub first_marker : Array → ℕ → ℕ → First → Marker
-first_marker array set position Opens = plain_marker array set Head position
-first_marker array set position (Keeps target kept) = record (plain_marker array set Cut position) { upload = target; length = kept }
-first_marker array set position IsReady = plain_marker array set Ready position
+first_marker array set position Opens = plain_of array set Head position
+first_marker array set position (Keeps target kept) = record (plain_of array set Cut position) { upload = target; length = kept }
+first_marker array set position IsReady = plain_of array set Ready position
 
 abbrev pub first_record : Array → ℕ → ℕ → First → Entry
 first_record array set position first = bare (first_marker array set position first)
@@ -121,7 +102,7 @@ abbrev pub part_of : Writer → ℕ → List ℕ
 part_of w part = take (payload_room w.geometry) (drop (part * payload_room w.geometry) w.lines)
 
 abbrev pub digest_marker : Writer → ℕ → Marker
-digest_marker w part = record (plain_marker (array_by w) w.set Digest (w.records + part)) {
+digest_marker w part = record (plain_of (array_by w) w.set Digest (w.records + part)) {
   fragment = div_ceil (length (part_of w part)) w.geometry.k;
   part = part;
   parts = parts_of w;

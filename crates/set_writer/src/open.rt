@@ -6,7 +6,8 @@ ghost use Rattle.set_table.specs.Table.{marks_of, with_empty_of, HangsTogether};
 ghost use Rattle.set_writer.specs.Entry.{entry_bytes, entries_bytes};
 ghost use Rattle.set_writer.specs.Members.{Grows, Spreads, MembersFirm, OthersStay, HoldBlocks};
 ghost use Rattle.set_table.specs.Table.{array_of};
-ghost use Rattle.set_writer.specs.Writer.{array_by, begun, behind, written, opening, plain_marker, first_marker, first_record, EmptyHold};
+ghost use Rattle.marker_format.specs.Plain.{plain_of};
+ghost use Rattle.set_writer.specs.Writer.{array_by, begun, behind, written, opening, first_marker, first_record, EmptyHold};
 ghost use Rattle.set_writer.specs.Fit.{live_of, has_enough};
 ghost use Rattle.set_writer.specs.Rounds.{InRounds};
 ghost use Rattle.set_writer.specs.Calls.{IsOf, FitsIn, IsCuts, MayBegin, Began, Opens, OpenRefusal, WereEnough, KeepsRoom};
@@ -137,25 +138,10 @@ impl SetWriter {
     /// A marker without what only some kinds have.
     pub(crate) fn plain_marker(&self, kind: Kind) -> Marker
         requires { self.now.records < 65536 }
-        ensures { result ≡ plain_marker (array_by self.now) self.now.set kind self.now.records }
+        ensures { result ≡ plain_of (array_by self.now) self.now.set kind self.now.records }
     {
-        Marker {
-            kind: kind.number(),
-            index: 0,
-            k: self.geometry.k,
-            n: self.geometry.k + self.geometry.p,
-            set: self.set,
-            position: self.records as u16,
-            fragment: 0,
-            stamp: 0,
-            upload: 0,
-            part: 0,
-            parts: 0,
-            length: 0,
-            payload: 0,
-            array: self.array,
-            name: None,
-        }
+        let n = self.geometry.k + self.geometry.p;
+        Marker::plain(kind, self.geometry.k, n, self.set, self.records as u16, self.array)
     }
 
     /// Writes the first records of a set on its members, and makes them firm.

@@ -10,11 +10,10 @@ use Rattle.zone_bay.specs.Contents.{Contents, IsOfBay}
 use Rattle.zone_bay.specs.Bay.{BayState}
 use Rattle.rs_code.specs.Coded.{CodedPayload}
 use Rattle.marker_format.specs.declared.marker.Marker.{Marker}
-use Rattle.marker_format.specs.declared.kind.Kind.{Kind}
-use Rattle.marker_format.specs.declared.kind.Kind.TheVariants.{Head, Part, Put, Delete, Cut, Ready, Digest, Snapshot, Trailer}
-use Rattle.marker_format.specs.Marker.{IsMarker, Counts, is_well_formed}
+use Rattle.marker_format.specs.Marker.{is_well_formed}
 use Rattle.marker_format.specs.Zone.{Array, belongs}
 use Rattle.marker_format.proofs.MarkerRules.{Widths, IsMarker-from}
+use Rattle.marker_format.proofs.PlainMarkers.{with_index}
 use Rattle.set_table.specs.Table.{Table}
 use Rattle.set_writer.specs.Entry.{Entry, at_index}
 use Rattle.set_writer.specs.Members.{Spreads}
@@ -24,45 +23,6 @@ use Rattle.set_writer.specs.Calls.{FitsIn, IsOf, Opens}
 use Rattle.set_writer.proofs.BeganLaws.{of_now}
 use Rattle.set_writer.proofs.WroteLaws.{written-stays}
 use Rattle.sets_bench.specs.Ready.{IsReady, IsOurs, part_marker}
-
-counts_same : (m : Marker) (index : ℕ) (kind : Kind) → Counts kind m → Counts kind (at_index index m)
-counts_same m index Head counts = counts
-counts_same m index Part counts = counts
-counts_same m index Put counts = counts
-counts_same m index Delete counts = counts
-counts_same m index Cut counts = counts
-counts_same m index Ready counts = counts
-counts_same m index Digest counts = counts
-counts_same m index Snapshot counts = counts
-counts_same m index Trailer counts = counts
-
--- well formed with one index, it is so with each
-with_index : (m : Marker) (index : ℕ) → index < m.n → IsMarker m → IsMarker (at_index index m)
-with_index m index below is = record {
-  kind = is.kind;
-  coded = is.coded;
-  k_from = is.k_from;
-  k_to = is.k_to;
-  n_to = is.n_to;
-  index_to = below;
-  fragment = is.fragment;
-  fragment_to = is.fragment_to;
-  set_from = is.set_from;
-  set_to = is.set_to;
-  position_to = is.position_to;
-  stamp = is.stamp;
-  stamp_to = is.stamp_to;
-  upload = is.upload;
-  upload_to = is.upload_to;
-  payload = is.payload;
-  name = is.name;
-  counts = counts_same m index is.kind is.counts;
-  part_to = is.part_to;
-  parts_to = is.parts_to;
-  length_to = is.length_to;
-  payload_to = is.payload_to;
-  array = is.array;
-}
 
 -- the array's geometry
 abbrev pub ours : Geometry

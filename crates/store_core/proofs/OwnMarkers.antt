@@ -4,12 +4,16 @@ use Rattle.std.specs.Prelude.{◌==◌}
 use Rattle.std.proofs.lemmas.Bool.{eq-eqb, cases_eq, cases_lt, ne_eqb}
 use Rattle.std.proofs.lemmas.Slice.Eq.{bytes_eq-Decides}
 use Rattle.smore_base.specs.Name.{IsName}
+use Rattle.marker_format.specs.declared.kind.Kind.{Kind}
 use Rattle.marker_format.specs.declared.kind.Kind.TheVariants as kinds
 use Rattle.marker_format.specs.declared.marker.Marker.{Marker}
+use Rattle.marker_format.specs.Kind.{most_position}
 use Rattle.marker_format.specs.Marker.{IsMarker}
+use Rattle.marker_format.specs.Plain.{plain_marker}
+use Rattle.marker_format.proofs.PlainMarkers.{IsPlain, IsSet, filled_is, with_index, no_fragments, plain_is}
 use Rattle.marker_format.specs.Zone.{Array, belongs}
 use Rattle.store_core.specs.declared.records.RecordPlace.{RecordPlace}
-use Rattle.store_core.specs.Records.{IsPlace, plain_marker, part_marker, put_marker, delete_marker}
+use Rattle.store_core.specs.Records.{IsPlace, place_marker, part_marker, put_marker, delete_marker}
 use Rattle.store_core.proofs.SaidLaws.{and_true, one_source}
 
 abbrev one_or_none : Bool → ℕ
@@ -44,140 +48,75 @@ parts_small bytes = at_one (bytes == 0)
     at_one true = omega arith
     at_one false = omega arith
 
-pub head_is : (place : RecordPlace) → IsPlace place → place.position ≡ 0 → IsMarker (plain_marker place kinds.Head)
-head_is place it first = record {
-  kind = kinds.Head;
-  coded = refl;
-  k_from = omega arith;
-  k_to = omega arith;
-  n_to = omega arith;
-  index_to = it.index;
-  fragment = omega arith;
-  fragment_to = omega arith;
-  set_from = it.set_from;
-  set_to = it.set_to;
-  position_to = omega (arith, first);
-  stamp = refl;
-  stamp_to = omega arith;
-  upload = refl;
-  upload_to = omega arith;
-  payload = refl;
-  name = tt;
-  counts = (omega arith, refl, refl);
-  part_to = omega arith;
-  parts_to = omega arith;
-  length_to = omega arith;
-  payload_to = omega arith;
-  array = it.array;
-}
+-- the set is one of the array's
+of_place : (place : RecordPlace) → IsPlace place → IsSet place.array 1 2 place.set
+of_place place it = record { k_from = omega arith; k_to = omega arith; n_to = omega arith; set_from = it.set_from; set_to = it.set_to; id = it.array }
 
-pub ready_is : (place : RecordPlace) → IsPlace place → IsMarker (plain_marker place kinds.Ready)
-ready_is place it = record {
-  kind = kinds.Ready;
-  coded = refl;
-  k_from = omega arith;
-  k_to = omega arith;
-  n_to = omega arith;
-  index_to = it.index;
-  fragment = omega arith;
-  fragment_to = omega arith;
-  set_from = it.set_from;
-  set_to = it.set_to;
-  position_to = omega (arith, it.position);
-  stamp = refl;
-  stamp_to = omega arith;
-  upload = refl;
-  upload_to = omega arith;
-  payload = refl;
-  name = tt;
-  counts = (refl, refl, refl);
-  part_to = omega arith;
-  parts_to = omega arith;
-  length_to = omega arith;
-  payload_to = omega arith;
-  array = it.array;
-}
+plain_here : (place : RecordPlace) (kind : Kind) → IsPlain kind → IsPlace place → place.position ≤ most_position kind → IsMarker (place_marker place kind)
+plain_here place kind plain it few = with_index (plain_marker place.array 1 2 place.set kind place.position) place.index it.index (plain_is place.array 1 2 place.set place.position kind plain (of_place place it) few)
+
+pub head_is : (place : RecordPlace) → IsPlace place → place.position ≡ 0 → IsMarker (place_marker place kinds.Head)
+head_is place it first = plain_here place kinds.Head tt it (omega (arith, first))
+
+pub ready_is : (place : RecordPlace) → IsPlace place → IsMarker (place_marker place kinds.Ready)
+ready_is place it = plain_here place kinds.Ready tt it (omega (arith, it.position))
 
 pub part_is : (place : RecordPlace) (upload bytes : ℕ) → IsPlace place → 1 ≤ upload → upload < 2 ^ 62 → 1 ≤ bytes → bytes ≤ 65408 → IsMarker (part_marker place upload bytes)
-part_is place upload bytes it from to some few = record {
-  kind = kinds.Part;
+part_is place upload bytes it from to some few = filled_is kinds.Part (part_marker place upload bytes) (of_place place it) it.index (record {
   coded = refl;
-  k_from = omega arith;
-  k_to = omega arith;
-  n_to = omega arith;
-  index_to = it.index;
   fragment = sym (one_source bytes);
   fragment_to = few;
-  set_from = it.set_from;
-  set_to = it.set_to;
   position_to = omega (arith, it.position);
   stamp = refl;
   stamp_to = omega arith;
   upload = from;
   upload_to = to;
   payload = some;
+  payload_to = omega (arith, few);
   name = tt;
   counts = (refl, refl);
   part_to = omega arith;
   parts_to = omega arith;
   length_to = omega arith;
-  payload_to = omega (arith, few);
-  array = it.array;
-}
+})
 
 pub put_is : (place : RecordPlace) (stamp bytes : ℕ) (name : List ℕ) → IsPlace place → 1 ≤ stamp → stamp < 2 ^ 62 → bytes < 2 ^ 32 → IsName name → IsMarker (put_marker place stamp bytes name)
-put_is place stamp bytes name it from to few fits = record {
-  kind = kinds.Put;
+put_is place stamp bytes name it from to few fits = filled_is kinds.Put (put_marker place stamp bytes name) (of_place place it) it.index (record {
   coded = refl;
-  k_from = omega arith;
-  k_to = omega arith;
-  n_to = omega arith;
-  index_to = it.index;
-  fragment = omega arith;
+  fragment = no_fragments 1;
   fragment_to = omega arith;
-  set_from = it.set_from;
-  set_to = it.set_to;
   position_to = omega (arith, it.position);
   stamp = from;
   stamp_to = to;
   upload = from;
   upload_to = to;
   payload = refl;
+  payload_to = omega arith;
   name = fits;
   counts = (refl, parts_few bytes, parts_none bytes);
   part_to = omega arith;
   parts_to = parts_small bytes;
   length_to = few;
-  payload_to = omega arith;
-  array = it.array;
-}
+})
 
 pub delete_is : (place : RecordPlace) (stamp : ℕ) (name : List ℕ) → IsPlace place → 1 ≤ stamp → stamp < 2 ^ 62 → IsName name → IsMarker (delete_marker place stamp name)
-delete_is place stamp name it from to fits = record {
-  kind = kinds.Delete;
+delete_is place stamp name it from to fits = filled_is kinds.Delete (delete_marker place stamp name) (of_place place it) it.index (record {
   coded = refl;
-  k_from = omega arith;
-  k_to = omega arith;
-  n_to = omega arith;
-  index_to = it.index;
-  fragment = omega arith;
+  fragment = no_fragments 1;
   fragment_to = omega arith;
-  set_from = it.set_from;
-  set_to = it.set_to;
   position_to = omega (arith, it.position);
   stamp = from;
   stamp_to = to;
   upload = refl;
   upload_to = omega arith;
   payload = refl;
+  payload_to = omega arith;
   name = fits;
   counts = (refl, refl, refl);
   part_to = omega arith;
   parts_to = omega arith;
   length_to = omega arith;
-  payload_to = omega arith;
-  array = it.array;
-}
+})
 
 -- ---- of the array
 

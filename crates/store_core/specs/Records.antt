@@ -5,29 +5,13 @@ use Rattle.marker_format.specs.declared.marker.TheConstants.{COUNTER_END}
 use Rattle.marker_format.specs.declared.kind.Kind.{Kind}
 use Rattle.marker_format.specs.declared.kind.Kind.TheVariants.{Part, Put, Delete}
 use Rattle.marker_format.specs.declared.marker.Marker.{Marker}
-use Rattle.marker_format.specs.Kind.{code_of}
+use Rattle.marker_format.specs.Plain.{plain_marker}
 use Rattle.marker_format.specs.Fragment.{record_bytes}
 use Rattle.store_core.specs.declared.records.RecordPlace.{RecordPlace}
 
--- a marker without what only some kinds have
-abbrev pub plain_marker : RecordPlace → Kind → Marker
-plain_marker place kind = record {
-  kind = code_of kind;
-  index = place.index;
-  k = 1;
-  n = 2;
-  set = place.set;
-  position = place.position;
-  fragment = 0;
-  stamp = 0;
-  upload = 0;
-  part = 0;
-  parts = 0;
-  length = 0;
-  payload = 0;
-  array = place.array;
-  name = None;
-}
+-- a marker without what only some kinds have, of a set of k 1 and p 1
+abbrev pub place_marker : RecordPlace → Kind → Marker
+place_marker place kind = record (plain_marker place.array 1 2 place.set kind place.position) { index = place.index }
 
 -- the place behind one record more
 abbrev pub next_place : RecordPlace → RecordPlace
@@ -35,15 +19,15 @@ next_place place = record place { position = place.position + 1 }
 
 -- an upload's only part
 abbrev pub part_marker : RecordPlace → ℕ → ℕ → Marker
-part_marker place upload bytes = record (plain_marker place Part) { fragment = bytes; upload = upload; payload = bytes }
+part_marker place upload bytes = record (place_marker place Part) { fragment = bytes; upload = upload; payload = bytes }
 
 -- the note of a put, whose stamp is its upload's number too
 abbrev pub put_marker : RecordPlace → ℕ → ℕ → List ℕ → Marker
-put_marker place stamp bytes name = record (plain_marker place Put) { stamp = stamp; upload = stamp; parts = if bytes == 0 then 0 else 1; length = bytes; name = Some name }
+put_marker place stamp bytes name = record (place_marker place Put) { stamp = stamp; upload = stamp; parts = if bytes == 0 then 0 else 1; length = bytes; name = Some name }
 
 -- the note of a delete
 abbrev pub delete_marker : RecordPlace → ℕ → List ℕ → Marker
-delete_marker place stamp name = record (plain_marker place Delete) { stamp = stamp; name = Some name }
+delete_marker place stamp name = record (place_marker place Delete) { stamp = stamp; name = Some name }
 
 -- the records of a put: its note, and in front of it a part, where it has bytes
 abbrev pub put_bytes : RecordPlace → ℕ → List ℕ → List ℕ → List ℕ

@@ -6,7 +6,7 @@ use Rattle.marker_format.specs.declared.marker.Marker.{Marker}
 use Rattle.marker_format.specs.Zone.{Array, has_kind, end_from, whole_records}
 use Rattle.store_core.specs.declared.store.TheConstants.{FIRST_SET}
 use Rattle.store_core.specs.declared.records.RecordPlace.{RecordPlace}
-use Rattle.store_core.specs.Records.{plain_marker, next_place}
+use Rattle.store_core.specs.Records.{place_marker, next_place}
 use Rattle.marker_format.specs.Fragment.{record_bytes}
 use Rattle.store_core.specs.Store.{Standing}
 
@@ -45,10 +45,10 @@ first_place array = record { set = FIRST_SET; index = 0; position = 0; array = a
 
 -- a set begins with a head and a ready record
 abbrev pub first_head : Array → Marker
-first_head array = plain_marker (first_place array) Head
+first_head array = place_marker (first_place array) Head
 
 abbrev pub first_ready : Array → Marker
-first_ready array = plain_marker (next_place (first_place array)) Ready
+first_ready array = place_marker (next_place (first_place array)) Ready
 
 abbrev pub first_markers : Array → List Marker
 first_markers array = first_head array ∷ first_ready array ∷ []

@@ -14,28 +14,15 @@ pub(crate) struct RecordPlace {
 }
 
 impl RecordPlace {
-    ghost use Rattle.store_core.specs.Records.{plain_marker, part_marker, put_marker, delete_marker, next_place};
+    ghost use Rattle.store_core.specs.Records.{place_marker, part_marker, put_marker, delete_marker, next_place};
 
     /// A marker without what only some kinds have.
     pub(crate) fn marker(&self, kind: Kind) -> Marker
-        ensures { result ≡ plain_marker self.now kind }
+        ensures { result ≡ place_marker self.now kind }
     {
         Marker {
-            kind: kind.number(),
             index: self.index,
-            k: 1,
-            n: 2,
-            set: self.set,
-            position: self.position,
-            fragment: 0,
-            stamp: 0,
-            upload: 0,
-            part: 0,
-            parts: 0,
-            length: 0,
-            payload: 0,
-            array: self.array,
-            name: None,
+            ..Marker::plain(kind, 1, 2, self.set, self.position, self.array)
         }
     }
 
