@@ -203,6 +203,8 @@ impl Draft {
         match dice.below(4) {
             0 => self.line("lose 0\nrun batch f\nget a\nstatus 6 calls 0 marks 0"),
             1 => {
+                self.line("crash all")?;
+                self.settled = [true; 4];
                 self.is_loose = true;
                 self.run(dice)?;
                 self.line("each call fails\nmap before or after")
