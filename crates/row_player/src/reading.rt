@@ -92,21 +92,27 @@ fn is_of(form: &[&str], words: &[&str]) -> bool {
     true
 }
 
-fn most_of(value: &str) -> Option<u64> {
-    for (name, most) in &NUMBERS {
+/// The least and the most that a number may be; `None` where the value is no number.
+fn limits_of(value: &str) -> Option<(u64, u64)> {
+    for (name, least, most) in &NUMBERS {
         if *name == value {
-            return Some(*most);
+            return Some((*least, *most));
         }
     }
     None
 }
 
-/// The number that a word stands for; `None` where it is more than this, or none.
-fn number_of(word: &str, most: u64) -> Option<u64> {
+/// The number that a word stands for; `None` where it is outside the limits, or none.
+fn number_of(word: &str, limits: (u64, u64)) -> Option<u64> {
     let Ok(number) = word.parse::<u64>() else {
         return None;
     };
-    if number <= most { Some(number) } else { None }
+    let (least, most) = limits;
+    if least <= number && number <= most {
+        Some(number)
+    } else {
+        None
+    }
 }
 
 fn not_a_value(alloc: Global, form: &str, value: &str, wanted: &str) -> Fault {
@@ -116,8 +122,9 @@ fn not_a_value(alloc: Global, form: &str, value: &str, wanted: &str) -> Fault {
     }
 }
 
-fn not_a_number(alloc: Global, form: &str, value: &str, most: u64) -> Fault {
-    match format!(in alloc; "{form}, with a number from 0 to {most} for {value}") {
+fn not_a_number(alloc: Global, form: &str, value: &str, limits: (u64, u64)) -> Fault {
+    let (least, most) = limits;
+    match format!(in alloc; "{form}, with a number from {least} to {most} for {value}") {
         Ok(text) => Fault::BadLine(text),
         Err(_) => Fault::Memory,
     }
@@ -157,11 +164,11 @@ impl Line {
         alloc: Global,
         form: &str,
         value: &str,
-        most: u64,
+        limits: (u64, u64),
         word: &str,
     ) -> Result<(), Fault> {
-        let Some(number) = number_of(word, most) else {
-            return Err(not_a_number(alloc, form, value, most));
+        let Some(number) = number_of(word, limits) else {
+            return Err(not_a_number(alloc, form, value, limits));
         };
         self.numbers.push(number)?;
         let shown = format!(in alloc; "{number}")?;
@@ -211,8 +218,8 @@ impl Line {
         value: &str,
         word: &str,
     ) -> Result<(), Fault> {
-        if let Some(most) = most_of(value) {
-            return self.take_number(alloc, form, value, most, word);
+        if let Some(limits) = limits_of(value) {
+            return self.take_number(alloc, form, value, limits, word);
         }
         match value {
             "WORD" => self.show(word),

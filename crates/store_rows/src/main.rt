@@ -90,14 +90,11 @@ fn play_files(
     Ok(None)
 }
 
-/// The number that a word says; 0 where it says none.
-fn number_of(word: Option<&String>) -> u64 {
-    let Some(word) = word else {
-        return 0;
-    };
-    match word.as_str().parse::<u64>() {
-        Ok(number) => number,
-        Err(_) => 0,
+/// The number that a word says.
+fn number_of(word: Option<&String>) -> Option<u64> {
+    match word?.as_str().parse::<u64>() {
+        Ok(number) => Some(number),
+        Err(_) => None,
     }
 }
 
@@ -146,16 +143,26 @@ fn play_random(
     Ok(None)
 }
 
+/// The words behind `random`: a seed, and how many rows.
+fn play_seeds(
+    rt: &(impl Print + AllocGlobal),
+    words: &[String],
+    tally: &mut Tally,
+) -> io::Result<Option<u8>> {
+    let (Some(seed), Some(count)) = (number_of(words.get(1)), number_of(words.get(2))) else {
+        println!(rt; "bad words: wanted random SEED COUNT")?;
+        return Ok(Some(BAD_LINE));
+    };
+    play_random(rt, seed, count, tally)
+}
+
 fn play(
     rt: &(impl Print + AllocGlobal + Files),
     words: &[String],
     tally: &mut Tally,
 ) -> io::Result<Option<u8>> {
     match words.first() {
-        Some(first) if first.as_str() == RANDOM => {
-            let seed = number_of(words.get(1));
-            play_random(rt, seed, number_of(words.get(2)), tally)
-        }
+        Some(first) if first.as_str() == RANDOM => play_seeds(rt, words, tally),
         _ => play_files(rt, words, tally),
     }
 }
