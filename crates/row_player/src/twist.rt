@@ -7,6 +7,9 @@ use std::fmt;
 /// All bytes of an append.
 pub const ALL: u32 = u32::MAX;
 
+/// The call of a stop that there is none for.
+const NO_CALL: u64 = u64::MAX;
+
 /// How a segment is played.
 #[derive(Clone, Copy)]
 pub enum Twist {
@@ -38,6 +41,7 @@ impl fmt::Display for Twist {
         match self {
             Twist::Plain => write!(f, "as it stands"),
             Twist::Fails(call) => write!(f, "call {call} fails"),
+            Twist::Stops(NO_CALL, _) => write!(f, "stopped in no call"),
             Twist::Stops(call, 0) => write!(f, "stopped in call {call}, nothing of it done"),
             Twist::Stops(call, ALL) => write!(f, "stopped in call {call}, all of an append done"),
             Twist::Stops(call, bytes) => {
@@ -56,7 +60,7 @@ fn begin_of(marks: &[u64], request: usize) -> u64 {
     }
     match marks.get(request - 1) {
         Some(mark) => *mark,
-        None => u64::MAX,
+        None => NO_CALL,
     }
 }
 
@@ -73,7 +77,7 @@ fn append_of(appends: &[u64], begin: u64, number: u64) -> u64 {
         }
         call = call.saturating_add(1);
     }
-    u64::MAX
+    NO_CALL
 }
 
 /// A stop in each call, and in an append with no, half and all of its bytes.

@@ -43,7 +43,7 @@ impl Draft {
 
     fn put(&mut self, name: usize, dice: &mut Dice) -> Result<(), Fault> {
         let bytes = dice.below(MOST + 1);
-        let blocks = 2 + bytes.div_ceil(511);
+        let blocks = bytes.div_ceil(511).saturating_add(2);
         let Some(word) = NAMES.get(name) else {
             return Ok(());
         };
