@@ -291,7 +291,11 @@ impl<'a> Player<'a> {
             self.log.closed(before, reach)?;
         }
         if life.set() == set {
-            let behind = if closes || was_closed { Some(before) } else { None };
+            let behind = if closes || was_closed {
+                Some(before)
+            } else {
+                None
+            };
             let reach = reach_of(life, set);
             self.log.opened(set, behind, &[], reach)?;
         }
@@ -306,7 +310,9 @@ impl<'a> Player<'a> {
             if is_failure {
                 return Ok(());
             }
-            return self.stage.differ(line, line.shown.as_str(), "no set is open");
+            return self
+                .stage
+                .differ(line, line.shown.as_str(), "no set is open");
         };
         let got = told_set(alloc, life, life.live())?;
         let one_more = told_set(alloc, life, life.live().saturating_add(1))?;

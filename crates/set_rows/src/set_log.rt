@@ -30,7 +30,11 @@ struct State {
 impl State {
     /// So many records are there, where only what is firm is sure to be, or all.
     fn least_of(&self, is_firm: bool) -> usize {
-        if is_firm { self.least.min(self.firm) } else { self.least }
+        if is_firm {
+            self.least.min(self.firm)
+        } else {
+            self.least
+        }
     }
 }
 

@@ -4,8 +4,8 @@ use crate::player::Player;
 use crate::set_log::{Allowed, copied_all};
 use bay_memory::{Keep, MemoryBay};
 use row_player::{
-    ALL, Difference, Fault, Line, Row, Segment, Stage, Twist, bytes_of_bay, choices, differ, formatted,
-    image_of, note, twists_of,
+    ALL, Difference, Fault, Line, Row, Segment, Stage, Twist, bytes_of_bay, choices, differ,
+    formatted, image_of, note, twists_of,
 };
 use smore_base::Geometry;
 use std::alloc::Global;
@@ -135,7 +135,11 @@ fn next_bay(
     found: &mut Vec<Difference>,
 ) -> Result<Option<MemoryBay>, Fault> {
     let is_firm = matches!(varied.stage.twist, Twist::StopsFirm(_));
-    let image = if is_firm { varied.firm.take() } else { varied.stage.bay.taken() };
+    let image = if is_firm {
+        varied.firm.take()
+    } else {
+        varied.stage.bay.taken()
+    };
     if let Some(image) = image {
         return Ok(Some(MemoryBay::from_image(alloc, image)));
     }
