@@ -14,9 +14,8 @@ use Rattle.marker_format.specs.declared.label.Label.{Label}
 use Rattle.marker_format.specs.declared.label.TheConstants.{LABEL_BYTES}
 use Rattle.marker_format.specs.Label.{label_at}
 use Rattle.marker_format.specs.Block.{block_of, label_block}
-use Rattle.array_model.specs.Drives.{Place, is_label_of_bay, label_on, drives_of, is_among, is_present, places_on, is_of, head_at}
+use Rattle.array_model.specs.Drives.{outside, Place, is_label_of_bay, label_on, drives_of, is_among, is_present, places_on, is_of, head_at}
 use Rattle.array_model.specs.Reading.{Carrier, carries, carrier_of, fragments_of}
-use Rattle.array_model.specs.Enough.{outside}
 use Rattle.array_model.specs.ReadingLaws.{NoCarrierComes, NoMoreCarriers, CarrierStays, PresentStay}
 
 -- ---- the first that passes
@@ -179,7 +178,7 @@ unfolding label_in block_of
 no_label shape device = let l = label_at [] in ap (λ b. cond b (Some l) None) (and_right (is_label_of_bay shape device l) (bytes_eq [] (label_block l)) refl)
 
 -- The label of a device is what it was, where it stays.
-label_without : (shape : Shape) (held : Contents) (leaving : List ℕ) (device : ℕ) → label_on shape (without_each leaving held) device ≡ cond (is_among leaving device) None (label_on shape held device)
+pub label_without : (shape : Shape) (held : Contents) (leaving : List ℕ) (device : ℕ) → label_on shape (without_each leaving held) device ≡ cond (is_among leaving device) None (label_on shape held device)
 label_without shape held leaving device =
     label_on-is shape (without_each leaving held) device
     ∙ ap (λ bytes. label_in shape device (take 512 bytes)) (held_without leaving held device 0)

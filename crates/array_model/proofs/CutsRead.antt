@@ -9,16 +9,17 @@ use Rattle.marker_format.specs.declared.marker.Marker.{Marker}
 use Rattle.marker_format.specs.Kind.{code_of, kind_of}
 use Rattle.marker_format.specs.Marker.{IsMarker, Counts}
 use Rattle.marker_format.specs.Zone.{Array, Stand, blocks_of, may_stand, whole_records}
-use Rattle.array_model.specs.Drives.{Place, bytes_at, records_at, first_of, is_of, present, places_on}
+use Rattle.array_model.specs.Drives.{Place, bytes_at, records_at, first_of, is_of, places_on}
 use Rattle.array_model.specs.Reading.{Carrier, carrier_of, fragments_of, carriers_of, agreed, payload_of, record_by, records_from, read_set, ids_at}
 use Rattle.array_model.specs.Record.{Record, Cut}
 use Rattle.array_model.specs.Sets.{ReadSet, Placed, stands, cut_to, kept_by, placed_from, valid, records_of}
 use Rattle.array_model.specs.SetLaws.{CutsAreOfLower}
-use Rattle.array_model.specs.Enough.{is_settled, outside, set_beside}
-use Rattle.array_model.specs.RemovalLaws.{CutsReadAreOfLower, CutsBesideAreOfLower}
+use Rattle.array_model.specs.Possible.{set_by}
+use Rattle.array_model.specs.RemovalLaws.{CutsReadAreOfLower, CutsChosenAreOfLower}
 use Rattle.array_model.proofs.Records.{Among, among_from_contains, among_joined, all_among}
 use Rattle.array_model.proofs.Sets.{cut_records, read_standing, read_fallen}
 use Rattle.array_model.proofs.Agreed.{common_first}
+use Rattle.array_model.proofs.Chosen.{taken_hold, chosen_taken}
 use Rattle.array_model.proofs.SameZones.{all-filter_map, carrier_among}
 use Rattle.array_model.proofs.Settled.{whole_stand}
 use Rattle.array_model.proofs.SettledRecords.{all_front}
@@ -150,17 +151,17 @@ cuts_read_are_of_lower k array shape held drives =
     let places = places_on shape drives in
     lower_cuts k (map (read_set array held places) (ids_at array held places)) (all_read_lower array held places (ids_at array held places))
 
-all_beside_lower : (array : Array) (held : Contents) (others : List Place) (all sets : List ReadSet) → AllByRecursion HasLowerCuts sets → AllByRecursion HasLowerCuts (map (set_beside array held others all) sets)
-all_beside_lower array held others all [] lower = tt
-all_beside_lower array held others all (set ∷ sets) lower = (at_one (is_settled array.geometry.k all set), all_beside_lower array held others all sets lower.1)
+pub cuts_chosen_are_of_lower : CutsChosenAreOfLower
+cuts_chosen_are_of_lower k array held places choice is = lower_cuts k (map (set_by array held choice) (ids_at array held places)) (each (ids_at array held places))
   where
-    at_one : (b : Bool) → HasLowerCuts (cond b set (read_set array held others set.id))
-    at_one true = lower.0
-    at_one false = read_set_lower array held others set.id
+    one : (set : ℕ) → HasLowerCuts (set_by array held choice set)
+    one set =
+        let chosen = choice set in
+        let those = carriers_of array held places set in
+        records_lower array held chosen set 0 (agreed array held chosen)
+        (agreed_all (IsOfSet set) array held chosen
+        (taken_hold (λ (c : Carrier). AllByRecursion (IsOfSet set) (records_at array held c.place)) chosen those (chosen_taken array.geometry.k chosen those (is set)) (carriers_of_set array held places set)))
 
-pub cuts_beside_are_of_lower : CutsBesideAreOfLower
-cuts_beside_are_of_lower k array shape held leaving =
-    let drives = present shape held [] in
-    let sets = map (read_set array held (places_on shape drives)) (ids_at array held (places_on shape drives)) in
-    let others = places_on shape (outside leaving drives) in
-    lower_cuts k (map (set_beside array held others sets) sets) (all_beside_lower array held others sets sets (all_read_lower array held (places_on shape drives) (ids_at array held (places_on shape drives))))
+    each : (ids : List ℕ) → AllByRecursion HasLowerCuts (map (set_by array held choice) ids)
+    each [] = tt
+    each (id ∷ ids) = (one id, each ids)

@@ -20,8 +20,9 @@ use Rattle.array_model.specs.Sets.{valid, placed}
 use Rattle.array_model.specs.Map.{items_of, map_of}
 use Rattle.array_model.specs.Drives.{Place, bytes_at, first_of, head_at, is_of, is_among, is_label_of_bay, label_on, drives_of, is_present, present, labels, places_on}
 use Rattle.array_model.specs.Reading.{Carrier, carries, carrier_of, fragments_of, read_set, with_head, ids_at, read_of}
-use Rattle.array_model.specs.Enough.{IsLeftAfter, outside, set_beside, read_beside}
-use Rattle.array_model.specs.Kept.{HaveOneList, carriers_in, CarriersAgree, ClosedStand, AreCopies, OneIsUnsettled, CutsKeepReady, CutsFit, LabelsAreOf, EndsAreFound, TakesFewer, EachZone, IndexesAreAlone, FitsBeside, ShowsKept, label_of, HasShape, IsFormatted}
+use Rattle.array_model.specs.Possible.{Choice, set_by, places_in, read_by}
+use Rattle.array_model.specs.Enough.{IsLeftAfter, IsRemains}
+use Rattle.array_model.specs.Kept.{HaveOneList, carriers_in, LabelsAreOf, EndsAreFound, TakesFewer, EachZone, IndexesAreAlone, IsKeptReading, ShowsKept, label_of, HasShape, IsFormatted}
 use Rattle.array_model.specs.ReadingLaws.{FormattedIsPresent, FormattedIsKept, FormattedIsEmpty}
 use Rattle.array_model.proofs.Records.{Among, among_from_contains, all_among}
 use Rattle.array_model.proofs.Carriers.{held_without, label_in, label_on-is, label_in-is, label_in-own, no_label, places_of}
@@ -91,6 +92,20 @@ ends_of_nothing array = record {
 
 -- ---- nothing is read
 
+-- Where nothing is read, what is read is kept.
+pub nothing_is_kept : (array : Array) (held : Contents) (choice : Choice) → IsKeptReading array held choice []
+nothing_is_kept array held choice = record {
+  payloads = λ set found. absurd (omega (arith, found.1));
+  closed = λ set found. absurd (omega (arith, found.1));
+  copies = record {
+    notes = λ stamp one other found. absurd (omega (arith, found.1));
+    parts = λ upload part one other found. absurd (omega (arith, found.1));
+  };
+  unsettled = λ one other found. absurd (omega (arith, found.1));
+  ready = λ set cut kept found. absurd (omega (arith, found.1));
+  cuts = λ set kept found. absurd (omega (arith, found.1));
+}
+
 module _ (array : Array) (shape : Shape) (held : Contents) (fits : HasShape array shape) (holds : HoldsLabels array shape held) where
   -- the place holds nothing
   abbrev IsEmpty : Place → Type 0
@@ -111,10 +126,8 @@ module _ (array : Array) (shape : Shape) (held : Contents) (fits : HasShape arra
   no_ids [] empty = refl
   no_ids (place ∷ places) empty = ap₂ with_head (no_head place empty.0) (no_ids places empty.1)
 
-  pub nothing_read : read_of array shape held ≡ []
-  nothing_read =
-      let places = places_on shape (present shape held []) in
-      ap (map (read_set array held places)) (no_ids places (all_empty (present shape held [])))
+  pub nothing_read : (choice : Choice) → read_by array shape held choice ≡ []
+  nothing_read choice = ap (map (set_by array held choice)) (no_ids (places_in shape held) (all_empty (present shape held [])))
 
   none_found : (set index : ℕ) (places : List Place) → AllByRecursion IsEmpty places → find (λ place. is_of set index (head_at array held place)) places ≡ None
   none_found set index [] empty = refl
@@ -126,12 +139,6 @@ module _ (array : Array) (shape : Shape) (held : Contents) (fits : HasShape arra
 
   no_carriers : (set : ℕ) → carriers_in array shape held set ≡ []
   no_carriers set = none_of_them (carrier_of array held (places_on shape (present shape held [])) set) (range_with_len 0 (fragments_of array)) (λ index. ap (carries index) (none_found set index (places_on shape (present shape held [])) (all_empty (present shape held []))))
-
-  carriers_agree : CarriersAgree array shape held
-  carriers_agree = record {
-    lists = λ set. subst (HaveOneList array held) (sym (no_carriers set)) ([], tt);
-    payloads = λ set found. absurd (omega (arith, subst (λ sets. Contains (valid array.geometry.k sets) set) nothing_read found));
-  }
 
   -- a new array's geometry is within its limits, so its label's numbers have their widths
   label_is : (device : ℕ) → device < shape.devices → IsLabel (label_of array device)
@@ -206,52 +213,29 @@ module _ (array : Array) (shape : Shape) (held : Contents) (fits : HasShape arra
       let none : is_of set index (head_at array held one) ≡ false = ap (is_of set index) (no_head one empty) in
       absurd (true≢false (sym is ∙ none))
 
-  -- Nothing is read beside any drives,
-  none_beside : (leaving : List ℕ) → read_beside array shape held leaving ≡ []
-  none_beside leaving = ap (λ sets. map (set_beside array held (places_on shape (outside leaving (present shape held []))) sets) sets) nothing_read
-
-  -- so it fits.
-  nothing_beside : (leaving : List ℕ) → FitsBeside array shape held leaving
-  nothing_beside leaving =
-      let k = array.geometry.k in
-      record {
-        settled = λ set found. absurd (omega (arith, subst (λ sets. Contains sets set) nothing_read found));
-        cuts = subst (CutsFit k) (sym (none_beside leaving)) (λ set kept found. absurd (omega (arith, found.1)));
-        payloads = λ set found. absurd (omega (arith, subst (λ sets. Contains (valid k sets) set) (none_beside leaving) found));
-        copies = subst (λ sets. AreCopies (items_of (placed (valid k sets)))) (sym (none_beside leaving)) record {
-          notes = λ stamp one other found. absurd (omega (arith, found.1));
-          parts = λ upload part one other found. absurd (omega (arith, found.1));
-        };
-      }
-
   -- So what it shows is kept.
   pub shows_kept : ShowsKept array shape held
-  shows_kept =
-      let k = array.geometry.k in
-      record {
-        carriers = carriers_agree;
-        closed = subst (ClosedStand k) (sym nothing_read) (λ set found. absurd (omega (arith, found.1)));
-        copies = subst (λ sets. AreCopies (items_of (placed (valid k sets)))) (sym nothing_read) record {
-          notes = λ stamp one other found. absurd (omega (arith, found.1));
-          parts = λ upload part one other found. absurd (omega (arith, found.1));
-        };
-        unsettled = subst (OneIsUnsettled k) (sym nothing_read) (λ one other found. absurd (omega (arith, found.1)));
-        labels = labels_are;
-        ends = each_zone (EndsAreFound array) (ends_of_nothing array);
-        blocks = each_zone (TakesFewer array shape.blocks) (λ some. absurd (omega (arith, some, ap length (nothing_whole array))));
-        ready = subst (CutsKeepReady k) (sym nothing_read) (λ set cut kept found. absurd (omega (arith, found.1)));
-        cuts = subst (CutsFit k) (sym nothing_read) (λ set kept found. absurd (omega (arith, found.1)));
-        alone = alone;
-        beside = λ leaving enough. nothing_beside leaving;
-      }
+  shows_kept = record {
+    lists = λ set. subst (HaveOneList array held) (sym (no_carriers set)) ([], tt);
+    readings = λ choice is. subst (IsKeptReading array held choice) (sym (nothing_read choice)) (nothing_is_kept array held choice);
+    labels = labels_are;
+    ends = each_zone (EndsAreFound array) (ends_of_nothing array);
+    blocks = each_zone (TakesFewer array shape.blocks) (λ some. absurd (omega (arith, some, ap length (nothing_whole array))));
+    alone = alone;
+  }
+
+-- A device that was lost holds nothing.
+remains_hold_labels : (array : Array) (shape : Shape) (lost : List ℕ) (held left : Contents) → IsFormatted array shape held → IsRemains array shape lost held left → HoldsLabels array shape left
+remains_hold_labels array shape lost held left formatted remains =
+    labels_left array shape remains.0 (without_each lost held) left (labels_without array shape held lost (formatted_labels array shape held formatted)) remains.1
 
 pub formatted_is_kept : FormattedIsKept
-formatted_is_kept array shape held formatted left remains =
-    shows_kept array shape left formatted.fits (labels_left array shape remains.0 held left (formatted_labels array shape held formatted) remains.1)
+formatted_is_kept array shape lost held formatted left remains =
+    shows_kept array shape left formatted.fits (remains_hold_labels array shape lost held left formatted remains)
 
 pub formatted_is_empty : FormattedIsEmpty
-formatted_is_empty array shape held objects formatted (left, remains, is) =
-    is ∙ ap (map_of array.geometry.k) (nothing_read array shape left formatted.fits (labels_left array shape remains.0 held left (formatted_labels array shape held formatted) remains.1))
+formatted_is_empty array shape lost held left objects formatted remains (choice, chosen, is) =
+    is ∙ ap (map_of array.geometry.k) (nothing_read array shape left formatted.fits (remains_hold_labels array shape lost held left formatted remains) choice)
 
 -- ---- its drives are present
 

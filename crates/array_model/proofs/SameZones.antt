@@ -11,10 +11,9 @@ use Rattle.marker_format.specs.Zone.{Array, IsWhole, Stand, begun, blocks_of, ha
 use Rattle.marker_format.proofs.ZoneLaws.{Begin-begun}
 use Rattle.array_model.specs.Payload.{payload_from}
 use Rattle.marker_format.specs.Fragment.{fragment_at}
-use Rattle.array_model.specs.Drives.{Place, bytes_at, records_at, first_of, head_at, is_of, is_among, present, places_on}
+use Rattle.array_model.specs.Drives.{outside, Place, bytes_at, records_at, first_of, head_at, is_of, is_among, present, places_on}
 use Rattle.array_model.specs.Reading.{Carrier, carries, carrier_of, fragments_of, carriers_of, common_of, agreed, fragment_on, payload_of, record_by, records_from, are_closed, set_from, read_set, with_id, with_head, ids_at, reading}
 use Rattle.array_model.specs.Sets.{RiseAbove}
-use Rattle.array_model.specs.Enough.{outside}
 use Rattle.array_model.specs.ReadingLaws.{LeftIsHeldBefore, ReadingRises}
 use Rattle.array_model.proofs.Carriers.{find-is, carries_some, held_without, present_stay, places_of, places_on_device}
 
@@ -69,7 +68,7 @@ module _ (array : Array) (held other : Contents) where
   abbrev pub AreSame : List Carrier → Type 0
   AreSame carriers = AllByRecursion (λ (c : Carrier). IsSame c.place) carriers
 
-  agreed-same : (carriers : List Carrier) → AreSame carriers → agreed array other carriers ≡ agreed array held carriers
+  pub agreed-same : (carriers : List Carrier) → AreSame carriers → agreed array other carriers ≡ agreed array held carriers
   agreed-same carriers same = ap common_of (map-same (λ (c : Carrier). records_at array other c.place) (λ c. records_at array held c.place) carriers (all-map (λ (c : Carrier). IsSame c.place) (λ c. records_at array other c.place ≡ records_at array held c.place) carriers (λ c same. ap (whole_records array) same) same))
 
   payload-same : (carriers : List Carrier) (block : ℕ) (m : Marker) → AreSame carriers → payload_of array other carriers block m ≡ payload_of array held carriers block m

@@ -12,11 +12,10 @@ use Rattle.marker_format.specs.declared.marker.Marker.{Marker}
 use Rattle.marker_format.specs.Kind.{kind_of}
 use Rattle.marker_format.specs.Marker.{IsMarker}
 use Rattle.marker_format.specs.Zone.{Array, IsWhole, blocks_of}
-use Rattle.array_model.specs.Drives.{Place, bytes_at, is_among, is_of, present, places_on, head_at}
+use Rattle.array_model.specs.Drives.{outside, Place, bytes_at, is_among, is_of, present, places_on, head_at}
 use Rattle.array_model.specs.Reading.{Carrier, carrier_of, fragments_of, carriers_of, alike, agreed, payload_of, record_by, records_from, read_set, ids_at}
 use Rattle.array_model.specs.Record.{is_ready}
 use Rattle.array_model.specs.Sets.{cut_to}
-use Rattle.array_model.specs.Enough.{outside}
 use Rattle.array_model.specs.Kept.{HaveOneList, HavePayloads, IndexesAreAlone}
 use Rattle.array_model.specs.ReadingLaws.{KeepsEnough}
 use Rattle.array_model.proofs.Records.{Among, among_from_contains, contains_from_among, among_first, among_rest, among_joined, all_among}
@@ -81,7 +80,7 @@ module _ (array : Array) (shape : Shape) (held : Contents) (leaving : List ℕ) 
 
   module _ (alone : IndexesAreAlone array shape held) (set : ℕ) where
     -- The carrier on the drives that stay is the carrier: no other zone takes a place.
-    carrier_was : (index : ℕ) (c : Carrier) → carrier_of array held others set index ≡ Some c → carrier_of array held places set index ≡ Some c
+    pub carrier_was : (index : ℕ) (c : Carrier) → carrier_of array held others set index ≡ Some c → carrier_of array held places set index ≡ Some c
     carrier_was index c e = at_one (carrier_of array held places set index) refl
       where
         at_one : (o : Option Carrier) → carrier_of array held places set index ≡ o → o ≡ Some c

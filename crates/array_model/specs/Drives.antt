@@ -33,6 +33,10 @@ drives_of shape = range_with_len 0 (shape.devices - 1)
 abbrev pub is_among : List ℕ → ℕ → Bool
 is_among devices device = list_any (λ d. d == device) devices
 
+-- the drives that don't leave
+abbrev pub outside : List ℕ → List ℕ → List ℕ
+outside leaving drives = filter (λ drive. not (is_among leaving drive)) drives
+
 -- A drive is present where it isn't away and begins with a label of this bay.
 abbrev pub is_present : Shape → Contents → List ℕ → ℕ → Bool
 is_present shape held away drive = not (is_among away drive) && is_some (label_on shape held drive)

@@ -13,12 +13,13 @@ use Rattle.marker_format.specs.Marker.{IsMarker}
 use Rattle.marker_format.specs.Block.{label_block, foot_block, marker_block}
 use Rattle.marker_format.specs.Zone.{Array, block_at, end_from, has_kind, begun, foot_follows, has_foot, trailer_follows, whole_records}
 use Rattle.array_model.specs.Payload.{AreFragments, fragment_of}
-use Rattle.array_model.specs.Drives.{Place, is_of, present, labels, places_on, bytes_at, records_at, head_at}
-use Rattle.array_model.specs.Reading.{Carrier, fragments_of, carriers_of, IsPrefixAlike, agreed, fragment_on, read_of}
+use Rattle.array_model.specs.Drives.{Place, is_of, labels, bytes_at, records_at, head_at}
+use Rattle.array_model.specs.Reading.{Carrier, fragments_of, carriers_of, IsPrefixAlike, agreed, fragment_on}
 use Rattle.array_model.specs.Record.{Record, Part, Put, Delete, Cut, is_ready}
 use Rattle.array_model.specs.Sets.{ReadSet, ValidSet, Placed, stands, valid, kept_by, records_of}
 use Rattle.array_model.specs.Map.{items_of}
-use Rattle.array_model.specs.Enough.{is_settled, read_beside, IsEnough, IsRemains}
+use Rattle.array_model.specs.Possible.{Choice, IsChoice, places_in, read_by}
+use Rattle.array_model.specs.Enough.{is_settled, IsRemains}
 
 -- ---- carriers of a set
 
@@ -42,20 +43,13 @@ HavePayloads array held carriers count =
 
 -- the carriers of a set on the drives that are present
 abbrev pub carriers_in : Array → Shape → Contents → ℕ → List Carrier
-carriers_in array shape held set = carriers_of array held (places_on shape (present shape held [])) set
-
--- The whole records of a set's carriers are prefixes of one list, and their fragments of each valid record are those of
--- one payload.
-pub record CarriersAgree (array : Array) (shape : Shape) (held : Contents) : Type 0 where
-  pub lists : (set : ℕ) → HaveOneList array held (carriers_in array shape held set)
-  pub payloads : (set : ValidSet) → Contains (valid array.geometry.k (read_of array shape held)) set
-      → HavePayloads array held (carriers_in array shape held set.id) (length set.records)
+carriers_in array shape held set = carriers_of array held (places_in shape held) set
 
 -- No two drives have a zone with a whole head of one index of a set. (Else, where the drive of the carrier leaves, the other
 -- zone takes its place, with records that need not be those that were read.)
 abbrev pub IndexesAreAlone : Array → Shape → Contents → Type 0
 IndexesAreAlone array shape held =
-    let places = places_on shape (present shape held []) in
+    let places = places_in shape held in
     (set index : ℕ) (one other : Place) → Contains places one → Contains places other
     → is_of set index (head_at array held one) ≡ true → is_of set index (head_at array held other) ≡ true → one.device ≡ other.device
 
@@ -97,19 +91,27 @@ abbrev pub CutsFit : ℕ → List ReadSet → Type 0
 CutsFit k sets =
     (set : ReadSet) (kept : ℕ) → Contains sets set → stands k set ≡ true → kept_by set.id (valid k sets) ≡ Some kept → kept ≤ length set.records
 
--- What is read beside drives that leave fits what is read now. (Else a record that is read beside them alone, as one of a set
--- that comes to stand, may cut off the cut that settled another set, and the carriers of that one may say what none said.)
-pub record FitsBeside (array : Array) (shape : Shape) (held : Contents) (leaving : List ℕ) : Type 0 where
-  -- A set that is settled is settled then,
-  pub settled : (set : ReadSet) → Contains (read_of array shape held) set → is_settled array.geometry.k (read_of array shape held) set ≡ true
-      → is_settled array.geometry.k (read_beside array shape held leaving) set ≡ true
-  -- a cut that is valid then keeps no more of a set than there is,
-  pub cuts : CutsFit array.geometry.k (read_beside array shape held leaving)
-  -- the carriers' fragments of each record that is valid then are those of one payload,
-  pub payloads : (set : ValidSet) → Contains (valid array.geometry.k (read_beside array shape held leaving)) set
-      → HavePayloads array held (carriers_in array shape held set.id) (length set.records)
-  -- and notes with one stamp are copies then, and parts with one upload and number.
-  pub copies : AreCopies (items_of (records_of array.geometry.k (read_beside array shape held leaving)))
+-- ---- possible readings
+
+-- What a possible reading of a kept array shows: what is read of its sets by a choice.
+pub record IsKeptReading (array : Array) (held : Contents) (choice : Choice) (sets : List ReadSet) : Type 0 where
+  -- The chosen carriers' fragments of each valid record are those of one payload.
+  pub payloads : (set : ValidSet) → Contains (valid array.geometry.k sets) set → HavePayloads array held (choice set.id) (length set.records)
+  -- A set with enough carriers that are all closed stands.
+  pub closed : ClosedStand array.geometry.k sets
+  -- Valid notes with one stamp are copies, and valid parts with one upload and number are.
+  pub copies : AreCopies (items_of (records_of array.geometry.k sets))
+  -- At most one set that stands is unsettled.
+  pub unsettled : OneIsUnsettled array.geometry.k sets
+  -- A cut that keeps anything of a set keeps its ready record,
+  pub ready : CutsKeepReady array.geometry.k sets
+  -- and no more records than there are.
+  pub cuts : CutsFit array.geometry.k sets
+
+-- In each possible reading notes with one stamp are copies, and parts with one upload and number are.
+abbrev pub AreEverCopies : Array → Shape → Contents → Type 0
+AreEverCopies array shape held =
+    (choice : Choice) → IsChoice array held (places_in shape held) choice → AreCopies (items_of (records_of array.geometry.k (read_by array shape held choice)))
 
 -- ---- labels and zones
 
@@ -157,38 +159,28 @@ TakesFewer array blocks bytes =
 
 -- Each set zone of the drives that are present is so.
 abbrev pub EachZone : Shape → Contents → (List ℕ → Type 0) → Type 0
-EachZone shape held P = AllByRecursion (λ place. P (bytes_at held place)) (places_on shape (present shape held []))
+EachZone shape held P = AllByRecursion (λ place. P (bytes_at held place)) (places_in shape held)
 
 -- ---- the kept array
 
 -- What an image shows of a kept array.
 pub record ShowsKept (array : Array) (shape : Shape) (held : Contents) : Type 0 where
-  -- The carriers of a set have one list of records, and fragments of the same payloads.
-  pub carriers : CarriersAgree array shape held
-  -- A set with enough carriers that are all closed stands.
-  pub closed : ClosedStand array.geometry.k (read_of array shape held)
-  -- Valid notes with one stamp are copies, and valid parts with one upload and number are.
-  pub copies : AreCopies (items_of (records_of array.geometry.k (read_of array shape held)))
-  -- At most one set that stands is unsettled.
-  pub unsettled : OneIsUnsettled array.geometry.k (read_of array shape held)
+  -- The whole records of a set's carriers are prefixes of one list.
+  pub lists : (set : ℕ) → HaveOneList array held (carriers_in array shape held set)
+  -- Each possible reading shows so.
+  pub readings : (choice : Choice) → IsChoice array held (places_in shape held) choice → IsKeptReading array held choice (read_by array shape held choice)
   -- All labels of drives name this array and its geometry.
   pub labels : LabelsAreOf array (labels shape held [])
   -- Trailers and feet stand at the ends of their zones, and nothing else is spelled like one there.
   pub ends : EachZone shape held (EndsAreFound array)
-  -- Records and feet leave a block free in their zone,
+  -- Records and feet leave a block free in their zone.
   pub blocks : EachZone shape held (TakesFewer array shape.blocks)
-  -- and a cut that keeps anything of a set keeps its ready record,
-  pub ready : CutsKeepReady array.geometry.k (read_of array shape held)
-  -- and no more records than there are.
-  pub cuts : CutsFit array.geometry.k (read_of array shape held)
-  -- An index of a set has zones on one drive,
+  -- An index of a set has zones on one drive.
   pub alone : IndexesAreAlone array shape held
-  -- and what is read beside drives that leave with enough fits.
-  pub beside : (leaving : List ℕ) → IsEnough array shape [] held leaving → FitsBeside array shape held leaving
 
 -- An array is kept where all that remains of it shows so.
-abbrev pub IsKept : Array → Shape → Contents → Type 0
-IsKept array shape image = (left : Contents) → IsRemains array shape image left → ShowsKept array shape left
+abbrev pub IsKept : Array → Shape → List ℕ → Contents → Type 0
+IsKept array shape lost image = (left : Contents) → IsRemains array shape lost image left → ShowsKept array shape left
 
 -- ---- a new array
 

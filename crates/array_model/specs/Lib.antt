@@ -8,6 +8,7 @@ pub mod Shelf
 pub mod Drives
 pub mod Payload
 pub mod Reading
+pub mod Possible
 pub mod Enough
 pub mod Cleaning
 pub mod NeedLaws

@@ -10,11 +10,12 @@ use Rattle.marker_format.specs.declared.kind.Kind.TheVariants.{Head}
 use Rattle.marker_format.specs.Marker.{IsMarker}
 use Rattle.marker_format.specs.Zone.{has_kind, Array, IsPrefix, begun, end_from, is_rebuilt}
 use Rattle.array_model.specs.Payload.{Fragment, payload_from, AreFragments, AreSome}
-use Rattle.array_model.specs.Drives.{Place, is_of, is_among, drives_of, present, places_on, bytes_at, records_at, head_at}
+use Rattle.array_model.specs.Drives.{Place, outside, is_of, is_among, drives_of, present, places_on, bytes_at, records_at, head_at}
 use Rattle.array_model.specs.Reading.{Carrier, carrier_of, fragments_of, carriers_of, aside, alike, agree, IsPrefixAlike, agreed, are_closed, payload_of, read_set, reading, read_of}
 use Rattle.array_model.specs.Record.{is_ready}
 use Rattle.array_model.specs.Sets.{AreRising, stands, records_of}
-use Rattle.array_model.specs.Enough.{outside, IsEnough, IsPossibleMap}
+use Rattle.array_model.specs.Possible.{IsPossibleMap}
+use Rattle.array_model.specs.Enough.{IsEnough, IsRemains}
 use Rattle.array_model.specs.Kept.{HaveOneList, HaveOnePayload, HavePayloads, IsKept, IsFormatted}
 use Rattle.smore_base.specs.Objects.{Map}
 use Rattle.std.specs.FinMap as finmap
@@ -196,9 +197,9 @@ FormattedIsPresent = (array : Array) (shape : Shape) (held : Contents) → IsFor
 
 -- it is kept,
 abbrev pub FormattedIsKept : Type 0
-FormattedIsKept = (array : Array) (shape : Shape) (held : Contents) → IsFormatted array shape held → IsKept array shape held
+FormattedIsKept = (array : Array) (shape : Shape) (lost : List ℕ) (held : Contents) → IsFormatted array shape held → IsKept array shape lost held
 
--- and its one possible map is the empty one.
+-- and the one possible map of all that remains of it is the empty one.
 abbrev pub FormattedIsEmpty : Type 0
-FormattedIsEmpty = (array : Array) (shape : Shape) (held : Contents) (objects : Map) → IsFormatted array shape held
-    → IsPossibleMap array shape held objects → objects ≡ finmap.empty
+FormattedIsEmpty = (array : Array) (shape : Shape) (lost : List ℕ) (held left : Contents) (objects : Map) → IsFormatted array shape held
+    → IsRemains array shape lost held left → IsPossibleMap array shape left objects → objects ≡ finmap.empty

@@ -1,91 +1,110 @@
--- Laws of removals: what is read of an array once drives have left, and what remains after any removals.
-use Rattle.std.specs.Prelude.{◌≡◌, ℕ, ◌≤◌, false, List, [], map, Contains}
+-- Laws of removals: what is possible once drives have left, and what remains after any removals.
+use Rattle.std.specs.Prelude.{◌≡◌, ℕ, ◌≤◌, List, [], Contains}
 use Rattle.smore_base.specs.Objects.{Map}
 use Rattle.zone_bay.specs.Contents.{Shape, Contents}
 use Rattle.zone_bay.specs.Images.{without_each}
 use Rattle.marker_format.specs.Zone.{Array}
-use Rattle.array_model.specs.Drives.{records_at}
-use Rattle.array_model.specs.Reading.{Carrier, alike, reading, read_of}
+use Rattle.array_model.specs.Drives.{Place, present, places_on, outside}
+use Rattle.array_model.specs.Reading.{read_set, missing, reading, read_of}
 use Rattle.array_model.specs.Sets.{ReadSet}
 use Rattle.array_model.specs.Map.{map_of}
-use Rattle.array_model.specs.SetLaws.{CutsAreOfLower, SaysTheSame}
-use Rattle.array_model.specs.Enough.{is_settled, read_beside, IsEnough, IsRemains, IsPossibleMap}
-use Rattle.array_model.specs.Kept.{carriers_in, ShowsKept, IsKept}
+use Rattle.array_model.specs.SetLaws.{CutsAreOfLower}
+use Rattle.array_model.specs.Possible.{Choice, IsChoice, reading_by, IsPossibleMap, IsEverNeeded}
+use Rattle.array_model.specs.Enough.{IsEnough, IsRemains}
+use Rattle.array_model.specs.Kept.{IndexesAreAlone, AreEverCopies, ShowsKept, IsKept}
 
 -- Each valid cut that is read is of a lower set than the one that it stands in,
 abbrev pub CutsReadAreOfLower : Type 0
 CutsReadAreOfLower = (k : ℕ) (array : Array) (shape : Shape) (held : Contents) (drives : List ℕ) → CutsAreOfLower k (reading array shape held drives)
 
--- also beside drives that leave.
-abbrev pub CutsBesideAreOfLower : Type 0
-CutsBesideAreOfLower = (k : ℕ) (array : Array) (shape : Shape) (held : Contents) (leaving : List ℕ) → CutsAreOfLower k (read_beside array shape held leaving)
+-- and so is each in a possible reading.
+abbrev pub CutsChosenAreOfLower : Type 0
+CutsChosenAreOfLower = (k : ℕ) (array : Array) (held : Contents) (places : List Place) (choice : Choice) → IsChoice array held places choice
+    → CutsAreOfLower k (reading_by array held places choice)
+
+-- ---- enough
+
+-- of each set that is read no more than p indexes have no carrier on the drives that stay
+abbrev pub MissFew : Array → Shape → Contents → List ℕ → Type 0
+MissFew array shape held leaving =
+    let others = places_on shape (outside leaving (present shape held [])) in
+    (set : ReadSet) → Contains (read_of array shape held) set → missing array (read_set array held others set.id) ≤ array.geometry.p
+
+-- Where no set misses more than p indexes once drives leave, they leave with enough.
+abbrev pub FewMissingAreEnough : Type 0
+FewMissingAreEnough = (array : Array) (shape : Shape) (uploads : List ℕ) (held : Contents) (leaving : List ℕ)
+    → MissFew array shape held leaving → IsEnough array shape uploads held leaving
 
 -- ---- one removal
 
--- Where drives leave with enough what is read says what was read beside them: each name stands for the same, and what is
--- valid or needed was so, at its place.
+-- What the laws of removals ask of what is held: an index of a set has zones on one drive, and in each possible reading notes
+-- with one stamp are copies, and so are parts with one upload and number.
+pub record AllowsRemovals (array : Array) (shape : Shape) (held : Contents) : Type 0 where
+  pub alone : IndexesAreAlone array shape held
+  pub copies : AreEverCopies array shape held
+
+-- Where drives leave with enough, each map that is possible then was possible,
+abbrev pub PossibleMapWas : Type 0
+PossibleMapWas = (array : Array) (shape : Shape) (uploads : List ℕ) (held : Contents) (leaving : List ℕ) (objects : Map)
+    → AllowsRemovals array shape held → IsEnough array shape uploads held leaving
+    → IsPossibleMap array shape (without_each leaving held) objects → IsPossibleMap array shape held objects
+
+-- each set that is ever needed then was,
+abbrev pub NeededSetWas : Type 0
+NeededSetWas = (array : Array) (shape : Shape) (uploads : List ℕ) (held : Contents) (leaving : List ℕ) (set : ℕ)
+    → AllowsRemovals array shape held → IsEnough array shape uploads held leaving
+    → IsEverNeeded array shape uploads (without_each leaving held) set → IsEverNeeded array shape uploads held set
+
+-- and removals are allowed as they were.
+abbrev pub RemovalsStayAllowed : Type 0
+RemovalsStayAllowed = (array : Array) (shape : Shape) (uploads : List ℕ) (held : Contents) (leaving : List ℕ)
+    → AllowsRemovals array shape held → IsEnough array shape uploads held leaving → AllowsRemovals array shape (without_each leaving held)
+
+-- The map of what is read is a possible one.
+abbrev pub MapIsPossible : Type 0
+MapIsPossible = (array : Array) (shape : Shape) (held : Contents) → IsPossibleMap array shape held (map_of array.geometry.k (read_of array shape held))
+
+-- So the map that is read where drives have left with enough was possible.
 abbrev pub OneRemoval : Type 0
 OneRemoval = (array : Array) (shape : Shape) (uploads : List ℕ) (held : Contents) (leaving : List ℕ)
-    → ShowsKept array shape held → IsEnough array shape uploads held leaving
-    → SaysTheSame array.geometry.k uploads (read_beside array shape held leaving) (read_of array shape (without_each leaving held))
+    → AllowsRemovals array shape held → IsEnough array shape uploads held leaving
+    → IsPossibleMap array shape held (map_of array.geometry.k (read_of array shape (without_each leaving held)))
 
 -- ---- any removals
 
--- An image remains of itself,
+-- An image without the devices that were lost remains of it,
 abbrev pub ImageRemains : Type 0
-ImageRemains = (array : Array) (shape : Shape) (image : Contents) → IsRemains array shape image image
+ImageRemains = (array : Array) (shape : Shape) (lost : List ℕ) (image : Contents) → IsRemains array shape lost image (without_each lost image)
 
 -- what is left of a remains where drives leave with enough is one,
 abbrev pub RemovalLeavesRemains : Type 0
-RemovalLeavesRemains = (array : Array) (shape : Shape) (image held : Contents) (leaving : List ℕ)
-    → IsRemains array shape image held → IsEnough array shape [] held leaving → IsRemains array shape image (without_each leaving held)
+RemovalLeavesRemains = (array : Array) (shape : Shape) (lost : List ℕ) (image held : Contents) (leaving : List ℕ)
+    → IsRemains array shape lost image held → IsEnough array shape [] held leaving → IsRemains array shape lost image (without_each leaving held)
 
--- and so is what remains of one.
+-- and so is what remains of one, without more devices lost.
 abbrev pub RemainsFollow : Type 0
-RemainsFollow = (array : Array) (shape : Shape) (image mid left : Contents)
-    → IsRemains array shape image mid → IsRemains array shape mid left → IsRemains array shape image left
+RemainsFollow = (array : Array) (shape : Shape) (lost : List ℕ) (image mid left : Contents)
+    → IsRemains array shape lost image mid → IsRemains array shape [] mid left → IsRemains array shape lost image left
 
--- So what remains of a kept array is kept.
-abbrev pub RemainsAreKept : Type 0
-RemainsAreKept = (array : Array) (shape : Shape) (image left : Contents) → IsKept array shape image → IsRemains array shape image left → IsKept array shape left
+-- Each map that is possible of a remains is a possible map of the image without the devices that were lost,
+abbrev pub RemainsMapWas : Type 0
+RemainsMapWas = (array : Array) (shape : Shape) (lost : List ℕ) (image left : Contents) (objects : Map)
+    → AllowsRemovals array shape (without_each lost image) → IsRemains array shape lost image left
+    → IsPossibleMap array shape left objects → IsPossibleMap array shape (without_each lost image) objects
 
--- A property that each removal with enough keeps, from what remains of an image, holds of each remains.
-abbrev pub HoldsOfRemains : (Array → Shape → Contents → Type 0) → Type 0
-HoldsOfRemains holds = (array : Array) (shape : Shape) (image : Contents) → holds array shape image
-    → ((held : Contents) (leaving : List ℕ) → IsRemains array shape image held → holds array shape held → IsEnough array shape [] held leaving
-    → holds array shape (without_each leaving held))
-    → (left : Contents) → IsRemains array shape image left → holds array shape left
+-- and so is the map of each remains.
+abbrev pub RemainsHavePossibleMaps : Type 0
+RemainsHavePossibleMaps = (array : Array) (shape : Shape) (lost : List ℕ) (image left : Contents)
+    → AllowsRemovals array shape (without_each lost image) → IsRemains array shape lost image left
+    → IsPossibleMap array shape (without_each lost image) (map_of array.geometry.k (read_of array shape left))
 
--- An array is kept that shows so, where each removal with enough from what remains of it leaves one that shows so,
-abbrev pub KeptByOneRemoval : Type 0
-KeptByOneRemoval = (array : Array) (shape : Shape) (image : Contents) → ShowsKept array shape image
-    → ((held : Contents) (leaving : List ℕ) → IsRemains array shape image held → ShowsKept array shape held → IsEnough array shape [] held leaving
-    → ShowsKept array shape (without_each leaving held))
-    → IsKept array shape image
+-- ---- the kept array
 
--- and it has but one possible map where each such removal leaves the map.
-abbrev pub OneMapByOneRemoval : Type 0
-OneMapByOneRemoval = (array : Array) (shape : Shape) (image : Contents) (objects : Map) → objects ≡ map_of array.geometry.k (read_of array shape image)
-    → ((held : Contents) (leaving : List ℕ) → IsRemains array shape image held → objects ≡ map_of array.geometry.k (read_of array shape held)
-    → IsEnough array shape [] held leaving → objects ≡ map_of array.geometry.k (read_of array shape (without_each leaving held)))
-    → (other : Map) → IsPossibleMap array shape image other → other ≡ objects
+-- An image that shows what a kept array shows does so where drives leave with enough,
+abbrev pub RemovalShowsKept : Type 0
+RemovalShowsKept = (array : Array) (shape : Shape) (uploads : List ℕ) (held : Contents) (leaving : List ℕ)
+    → ShowsKept array shape held → IsEnough array shape uploads held leaving → ShowsKept array shape (without_each leaving held)
 
--- ---- one possible map
-
--- the carriers have equal lists of whole records
-abbrev pub HaveEqualLists : Array → Contents → List Carrier → Type 0
-HaveEqualLists array held carriers =
-    (one other : Carrier) → Contains carriers one → Contains carriers other
-    → map alike (records_at array held one.place) ≡ map alike (records_at array held other.place)
-
--- Of each set with k carriers that isn't settled the carriers have equal lists of whole records.
-abbrev pub UnsettledAreEven : Array → Shape → Contents → Type 0
-UnsettledAreEven array shape held =
-    let sets = read_of array shape held in
-    (set : ReadSet) → Contains sets set → array.geometry.k ≤ set.carriers → is_settled array.geometry.k sets set ≡ false
-    → HaveEqualLists array held (carriers_in array shape held set.id)
-
--- A kept array of which that holds has its own map as its only possible one.
-abbrev pub OnePossibleMap : Type 0
-OnePossibleMap = (array : Array) (shape : Shape) (held : Contents) (objects : Map) → IsKept array shape held → UnsettledAreEven array shape held
-    → IsPossibleMap array shape held objects → objects ≡ map_of array.geometry.k (read_of array shape held)
+-- so what shows it is kept.
+abbrev pub WhatShowsIsKept : Type 0
+WhatShowsIsKept = (array : Array) (shape : Shape) (lost : List ℕ) (image : Contents) → ShowsKept array shape (without_each lost image) → IsKept array shape lost image

@@ -40,10 +40,10 @@ NoNewestNoNote = (name : List ℕ) (items : List Record) (item : Record) → new
 abbrev pub NotesAreOne : ℕ → List ReadSet → Type 0
 NotesAreOne k sets = (name : List ℕ) (stamp : ℕ) (one other : Record) → Contains (items_of (records_of k sets)) one → Contains (items_of (records_of k sets)) other → note_stamp name one ≡ Some stamp → note_stamp name other ≡ Some stamp → one ≡ other
 
--- the same set, with as many carriers or fewer
-pub record LosesCarriers (old new : ReadSet) : Type 0 where
+-- The same set, with as many carriers or fewer. While k are left it says what it said. (From fewer more records may be read.)
+pub record LosesCarriers (k : ℕ) (old new : ReadSet) : Type 0 where
   pub id : new.id ≡ old.id
-  pub records : new.records ≡ old.records
+  pub records : k ≤ new.carriers → new.records ≡ old.records
   pub carriers : new.carriers ≤ old.carriers
 
 -- Each of these sets, where it holds a record that is needed in the old ones, has k carriers.
@@ -52,7 +52,7 @@ AreEnough k uploads old new = AllByRecursion (λ set. IsNeededSet k uploads old 
 
 -- Sets lose carriers, but each set that holds a needed record keeps k of them.
 pub record LosesUnneeded (k : ℕ) (uploads : List ℕ) (old new : List ReadSet) : Type 0 where
-  pub fewer : AllZip LosesCarriers old new
+  pub fewer : AllZip (LosesCarriers k) old new
   pub enough : AreEnough k uploads old new
 
 -- Each name stands for what it stood for.
@@ -78,7 +78,7 @@ LossesFollow = (k : ℕ) (uploads : List ℕ) (old mid new : List ReadSet) → 0
 
 -- and they do where those that are needed at first keep k to the end.
 abbrev pub FirstNeedIsEnough : Type 0
-FirstNeedIsEnough = (k : ℕ) (uploads : List ℕ) (old mid new : List ReadSet) → 0 < k → NotesAreOne k old → AllZip LosesCarriers old mid → AllZip LosesCarriers mid new → AreEnough k uploads old new → LosesUnneeded k uploads old mid × LosesUnneeded k uploads mid new
+FirstNeedIsEnough = (k : ℕ) (uploads : List ℕ) (old mid new : List ReadSet) → 0 < k → NotesAreOne k old → AllZip (LosesCarriers k) old mid → AllZip (LosesCarriers k) mid new → AreEnough k uploads old new → LosesUnneeded k uploads old mid × LosesUnneeded k uploads mid new
 
 -- More records behind those of the highest set that stands.
 pub record Appends (k : ℕ) (more : List Record) (old new : List ReadSet) : Type 0 where

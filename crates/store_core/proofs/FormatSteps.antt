@@ -24,7 +24,7 @@ formatted array shape None None count within long shaped all inside made = tt
 formatted array shape None (Some held) count within long shaped all inside made = absurd made
 formatted array shape (Some was) None count within long shaped all inside made = absurd made
 formatted array shape (Some was) (Some held) count within long shaped all inside made = record {
-  fits = record { within = within; id = long; devices = sym shaped.devices; zones = sym shaped.zones; blocks = sym shaped.blocks };
+  fits = record { within = within; id = long; devices = shaped.devices; zones = shaped.zones; blocks = shaped.blocks };
   label = λ device below. (made device (omega (arith, all))).first;
   nothing = λ device zone behind. elim (cases_lt device shape.devices) [
     | inl below ↦ elim (cases_lt zone shape.zones) [

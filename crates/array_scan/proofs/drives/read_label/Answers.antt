@@ -10,4 +10,4 @@ returns-in-Ok-clause-reads g c =
 
 pub returns-in-Err-clause-reads : goal.returns-in-Err-clause-reads
 returns-in-Err-clause-reads g c =
-    read_failed (Option Label) Failed.Failed c.args.device (g.B.Bay.state c.args.bay.now) (g.B.Bay.state c.read_bay_label.new.bay) c.in-Err.ensures.reads.only c.in-Err.ensures.reads.cause c.in-Err.ensures.reads.over
+    read_failed (Option Label) _ c.args.device (g.B.Bay.state c.args.bay.now) (g.B.Bay.state c.read_bay_label.new.bay) c.in-Err.ensures.reads.only c.in-Err.ensures.reads.cause c.in-Err.ensures.reads.over

@@ -1,5 +1,0 @@
-use Rattle.array_model.proofs.Remains.{holds_of_remains}
-use Rattle.array_model.proofs.removal_laws.all_removals_keep.Goals as goal
-
-pub returns : goal.returns
-returns g c = λ value array shape image. holds_of_remains array shape image (g.P.Property.holds value array shape)
