@@ -1,73 +1,43 @@
-//! Requests as words.
+//! Requests as bytes.
 
-use crate::fault::Fault;
 use crate::frame::{frame, length_of};
-use crate::text::{bytes_of, from_hex};
-use std::alloc::Global;
+use row_player::{Does, Line};
+use std::alloc::{AllocError, Global};
 
-/// What a call asks for, as far as the map of objects is concerned.
-#[derive(Debug, Drop)]
-pub(crate) enum Request {
-    Put { name: Vec<u8>, object: Vec<u8> },
-    Delete { name: Vec<u8> },
-    /// Changes nothing, or is no request.
-    Other,
-    /// Ends the run, and has no reply.
-    Stop,
+fn named(alloc: Global, tag: u8, name: &[u8], rest: &[u8]) -> Result<Vec<u8>, AllocError> {
+    frame(alloc, tag, &[&length_of(name), name, rest])
 }
 
-fn named(alloc: Global, tag: u8, name: &[u8], rest: &[u8]) -> Result<Vec<u8>, Fault> {
-    Ok(frame(alloc, tag, &[&length_of(name), name, rest])?)
-}
-
-fn list(alloc: Global, after: &[u8], limit: &str) -> Result<Vec<u8>, Fault> {
-    let Ok(limit) = limit.parse::<u16>() else {
-        return Err(Fault::BadLine("a limit from 0 to 65535"));
-    };
-    named(alloc, 4, after, &limit.to_be_bytes())
-}
-
-/// The bytes of these words of hex digits, one behind the other.
-pub(crate) fn joined_hex(alloc: Global, words: &[&str]) -> Result<Vec<u8>, Fault> {
+/// The bytes of a line, one behind the other.
+pub(crate) fn joined(alloc: Global, words: &[Vec<u8>]) -> Result<Vec<u8>, AllocError> {
     let mut bytes = Vec::new(alloc);
     for word in words {
-        bytes.extend_from_slice(&from_hex(alloc, word)?)?;
+        bytes.extend_from_slice(word)?;
     }
     Ok(bytes)
 }
 
-/// The request that a line's words ask for, and its frame; `None` where they are no request.
-pub(crate) fn request_of(
-    alloc: Global,
-    words: &[&str],
-) -> Result<Option<(Request, Vec<u8>)>, Fault> {
-    let found = match *words {
-        ["put", name, object] => {
-            let name = bytes_of(alloc, name)?;
-            let object = bytes_of(alloc, object)?;
-            let bytes = named(alloc, 1, &name, &object)?;
-            (Request::Put { name, object }, bytes)
-        }
-        ["get", name] => (
-            Request::Other,
-            named(alloc, 2, &bytes_of(alloc, name)?, &[])?,
-        ),
-        ["delete", name] => {
-            let name = bytes_of(alloc, name)?;
-            let bytes = named(alloc, 3, &name, &[])?;
-            (Request::Delete { name }, bytes)
-        }
-        ["list", limit] => (Request::Other, list(alloc, &[], limit)?),
-        ["list", "after", name, limit] => (
-            Request::Other,
-            list(alloc, &bytes_of(alloc, name)?, limit)?,
-        ),
-        ["stop"] => (Request::Stop, frame(alloc, 255, &[])?),
-        ["frame", ..] => (
-            Request::Other,
-            joined_hex(alloc, words.get(1..).unwrap_or(&[]))?,
-        ),
-        _ => return Ok(None),
-    };
-    Ok(Some(found))
+/// The bytes that a request puts to the input; of another line none.
+fn request_of(alloc: Global, line: &Line) -> Result<Vec<u8>, AllocError> {
+    let name = line.bytes(0);
+    let limit = line.number_u16(0).to_be_bytes();
+    match line.does {
+        Does::Put => named(alloc, 1, name, line.bytes(1)),
+        Does::Get => named(alloc, 2, name, &[]),
+        Does::Delete => named(alloc, 3, name, &[]),
+        Does::List => named(alloc, 4, &[], &limit),
+        Does::ListAfter => named(alloc, 4, name, &limit),
+        Does::Stop => frame(alloc, 255, &[]),
+        Does::Frame => joined(alloc, &line.bytes),
+        _ => Ok(Vec::new(alloc)),
+    }
+}
+
+/// The input of a run.
+pub(crate) fn input_of(alloc: Global, lines: &[Line]) -> Result<Vec<u8>, AllocError> {
+    let mut input = Vec::new(alloc);
+    for line in lines {
+        input.extend_from_slice(&request_of(alloc, line)?)?;
+    }
+    Ok(input)
 }

@@ -2,9 +2,8 @@
 
 ghost use Rattle.std.specs.Prelude.{◌<◌, ◌≤◌, All, IfOk, vec_len};
 
-use crate::fault::Fault;
-use crate::row::{Script, Stream};
 use bay_memory::MemoryBay;
+use row_player::{Does, Fault, Line};
 use smore_top::{MemorySink, MemorySource, Outcome, Words, run_batch};
 use std::alloc::Global;
 
@@ -30,13 +29,14 @@ impl Streams {
         }
     }
 
-    /// Sets one of these.
-    pub(crate) fn set(&mut self, stream: Stream) -> Result<(), Fault> {
-        match stream {
-            Stream::SourceFails { take } => self.source_fails.push(take)?,
-            Stream::SourceGives { bytes } => self.source_gives = bytes.max(1),
-            Stream::SinkFails { put } => self.sink_fails.push(put)?,
-            Stream::SinkTakes { bytes } => self.sink_takes = bytes.max(1),
+    /// Sets what the line says.
+    pub(crate) fn set(&mut self, line: &Line) -> Result<(), Fault> {
+        match line.does {
+            Does::SourceFails => self.source_fails.push(line.number(0))?,
+            Does::SourceGives => self.source_gives = line.size(0).max(1),
+            Does::SinkFails => self.sink_fails.push(line.number(0))?,
+            Does::SinkTakes => self.sink_takes = line.size(0).max(1),
+            _ => {}
         }
         Ok(())
     }
@@ -69,7 +69,7 @@ fn pieces_of(alloc: Global, input: &[u8], size: usize, cut: usize) -> Result<Vec
     if pieces.iter().all(|piece| !piece.is_empty()) {
         Ok(pieces)
     } else {
-        Err(Fault::BadLine("pieces with a byte each"))
+        Err(Fault::wanted(alloc, "pieces with a byte each"))
     }
 }
 
@@ -91,13 +91,14 @@ fn words_of(alloc: Global, texts: &[String]) -> Result<Words, Fault> {
 /// Runs the words over the bay, on the input cut behind so many bytes.
 pub(crate) fn run(
     alloc: Global,
-    script: &Script,
+    words: &[String],
+    input: &[u8],
     streams: &Streams,
     cut: usize,
     bay: MemoryBay,
 ) -> Result<(Ran, MemoryBay), Fault> {
-    let words = words_of(alloc, &script.words)?;
-    let pieces = pieces_of(alloc, &script.input, streams.source_gives, cut)?;
+    let words = words_of(alloc, words)?;
+    let pieces = pieces_of(alloc, input, streams.source_gives, cut)?;
     let mut source = MemorySource::new(alloc, pieces);
     source.fail_at(&streams.source_fails)?;
     let mut sink = MemorySink::new(alloc, streams.sink_takes);
