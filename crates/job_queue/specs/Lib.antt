@@ -1,5 +1,0 @@
-pub mod Ends
-pub mod Hands
-pub mod Lists
-pub mod Queues
-pub mod Rule
