@@ -1,12 +1,15 @@
-//! Links to workers: a bounded queue in which one thread puts links and others take them, each once and in order. `docs/RULES.md`, "Links to workers", has the rules.
+//! Links for workers: one caller puts them, several take them, each to the end that a closing mark tells. What each pass put
+//! and took is known in proofs, so that once all passes are joined each link was taken once or is left.
 #![tactic(auto)]
 
 mod hand;
 mod jobs;
 mod pass;
-#[cfg(test)]
-mod tests;
+mod rule;
 
-pub use hand::{Entry, Hand};
+pub use hand::{Hand, Job};
 pub use jobs::Jobs;
 pub use pass::JobPass;
+
+#[cfg(test)]
+mod tests;

@@ -1,19 +1,19 @@
-//! A pass: what one thread has put and taken.
-ghost use Rattle.std.specs.Prelude.{◌≡◌, ◌<◌, ◌%◌, ◌^◌};
+//! A pass, with which one thread puts or takes links.
+ghost use Rattle.std.specs.Prelude.{◌≡◌, ◌+◌, ◌%◌, ◌^◌, ◌<◌, false, length};
 ghost use Rattle.crossbeam_queue.specs.Passes.{view};
-ghost use Rattle.job_queue.specs.Weights.{weigh, link};
-ghost use Rattle.job_queue.specs.Hands.{weight_taken};
+ghost use Rattle.job_queue.specs.Hands.{links_put, links_taken};
 
-use crate::hand::Hand;
+use crate::hand::{Hand, Job};
 use crossbeam_queue::Pass;
 
-/// The right to use one queue in one thread. Contracts see what it put and took.
+/// What one thread puts or takes links with. It may go to another thread.
+#[derive(Drop)]
 pub struct JobPass<L> {
-    pub(crate) pass: Pass<Option<(u64, L)>, Hand<L>>,
-    // The links that were put, and those that were taken, both modulo 2^64.
-    pub(crate) put: u64,
-    pub(crate) taken: u64,
-    pub ghost some: { 0 < (view pass).joined },
-    pub ghost put_is: { put ≡ weigh link (view pass).put % 2 ^ 64 },
-    pub ghost taken_is: { taken ≡ weight_taken link (view pass) % 2 ^ 64 },
+    pub(crate) pass: Pass<Job<L>, Hand<L>>,
+    /// The links that were put less those that were taken, modulo 2^64.
+    pub(crate) ahead: u64,
+    ghost counted: { (ahead + links_taken (view pass)) % 2 ^ 64 ≡ links_put (view pass) % 2 ^ 64 },
+    ghost takes: { 0 < length (view pass).taken },
+    ghost apart: { (view pass).owner ≡ false },
+    ghost none_made: { (view pass).made ≡ 0 },
 }

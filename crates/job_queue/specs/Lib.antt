@@ -1,0 +1,5 @@
+pub mod Ends
+pub mod Hands
+pub mod Lists
+pub mod Queues
+pub mod Rule
