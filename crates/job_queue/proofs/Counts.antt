@@ -1,6 +1,7 @@
 -- What a pass counts, and what is left once all are joined.
-use Rattle.std.proofs.Common.{◌≡◌, ℕ, ◌+◌, ◌%◌, ◌<◌, ◌≤◌, ◌^◌, Bool, true, false, ◌||◌, List, [], ◌∷◌, ◌++◌, Option, Some, None, length, sym, refl, ap, ◌∙◌, subst, append_assoc, arith, length-append}
+use Rattle.std.proofs.Common.{◌≡◌, ℕ, ◌+◌, ◌%◌, ◌<◌, ◌≤◌, ◌^◌, Bool, true, false, true≢false, ◌||◌, List, [], ◌∷◌, ◌++◌, Option, Some, None, length, sym, refl, ap, ◌∙◌, subst, append_assoc, arith, length-append}
 use Rattle.std.specs.List.{sum_by}
+use Rattle.std.specs.Option.{is_some}
 use Rattle.std.proofs.lemmas.List.Sums.{sum_by-cons, sum_by-append, sum_by_push}
 use Rattle.job_queue.specs.declared.hand.Hand.{Hand}
 use Rattle.job_queue.specs.Lists.{links_of, marks_of, MarksBehind, EachInOrder, EachOnce, weight, add_own}
@@ -114,7 +115,7 @@ module _ {L : Type 0} where
     none_made = s.none_made;
   })
 
-  pub sound_take : (v w : Hand L) (x : ℕ × L) (a : ℕ) → Sound v a → w ≡ takes v (Some x) → Sound w ((a + 18446744073709551615) % 2 ^ 64)
+  sound_take : (v w : Hand L) (x : ℕ × L) (a : ℕ) → Sound v a → w ≡ takes v (Some x) → Sound w ((a + 18446744073709551615) % 2 ^ 64)
   sound_take v w x a s is = subst (λ (u : Hand L). Sound u ((a + 18446744073709551615) % 2 ^ 64)) (sym is) (record {
     counted = one_less a (links_taken v) (links_taken (takes v (Some x))) (links_put v) (links-own v.taken (Some x) s.takes) s.counted;
     takes = let e = length-own v.taken (Some x) in let t = s.takes in omega arith;
@@ -122,7 +123,7 @@ module _ {L : Type 0} where
     none_made = s.none_made;
   })
 
-  pub sound_end : (v w : Hand L) (a : ℕ) → Sound v a → w ≡ takes v None → Sound w a
+  sound_end : (v w : Hand L) (a : ℕ) → Sound v a → w ≡ takes v None → Sound w a
   sound_end v w a s is = subst (λ (u : Hand L). Sound u a) (sym is) (record {
     counted = ap (λ n. (a + n) % 2 ^ 64) (let e = links-own v.taken None s.takes in omega arith) ∙ s.counted;
     takes = let e = length-own v.taken None in let t = s.takes in omega arith;
@@ -140,3 +141,11 @@ module _ {L : Type 0} where
     apart = neither v.owner u.owner s.apart t.apart;
     none_made = let m = s.none_made in let n = t.none_made in omega arith;
   })
+
+  pub sound_some : (v w : Hand L) (j : Option (ℕ × L)) (a : ℕ) → Sound v a → is_some j ≡ true → w ≡ takes v j → Sound w ((a + 18446744073709551615) % 2 ^ 64)
+  sound_some v w (Some x) a s some is = sound_take v w x a s is
+  sound_some v w None a s some is = absurd (true≢false (sym some))
+
+  pub sound_none : (v w : Hand L) (j : Option (ℕ × L)) (a : ℕ) → Sound v a → is_some j ≡ false → w ≡ takes v j → Sound w a
+  sound_none v w None a s none is = sound_end v w a s is
+  sound_none v w (Some x) a s none is = absurd (true≢false none)
