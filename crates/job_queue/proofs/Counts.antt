@@ -5,7 +5,7 @@ use Rattle.std.specs.Option.{is_some}
 use Rattle.std.proofs.lemmas.List.Sums.{sum_by-cons, sum_by-append, sum_by_push}
 use Rattle.job_queue.specs.declared.hand.Hand.{Hand}
 use Rattle.job_queue.specs.Lists.{links_of, marks_of, MarksBehind, EachInOrder, EachOnce, weight, add_own}
-use Rattle.job_queue.specs.Hands.{joined, puts, takes, owner_hand, links_put, links_taken, passes_in}
+use Rattle.job_queue.specs.Hands.{joined, puts, takes, owner_hand, links_put, links_taken, marks_taken, passes_in}
 use Rattle.job_queue.specs.Ends.{KnowsAll, Ending}
 use Rattle.job_queue.proofs.Lists.{links_of-append, none_behind, length-own}
 
@@ -49,6 +49,19 @@ module _ {X : Type 0} where
   all_weigh [] = refl
   all_weigh (js ∷ jss) = omega (arith, sum_by-cons (sum_by is_link) js jss, sum_by-cons links_in js jss, links_weigh js, all_weigh jss)
 
+  abbrev is_mark : Option X → ℕ
+  is_mark (Some x) = 0
+  is_mark None = 1
+
+  marks_weigh : (js : List (Option X)) → sum_by is_mark js ≡ marks_of js
+  marks_weigh [] = refl
+  marks_weigh (Some x ∷ js) = omega (arith, sum_by-cons is_mark (Some x) js, marks_weigh js)
+  marks_weigh (None ∷ js) = omega (arith, sum_by-cons is_mark None js, marks_weigh js)
+
+  all_marks_weigh : (jss : List (List (Option X))) → weight is_mark jss ≡ sum_by marks_of jss
+  all_marks_weigh [] = refl
+  all_marks_weigh (js ∷ jss) = omega (arith, sum_by-cons (sum_by is_mark) js jss, sum_by-cons marks_of js jss, marks_weigh js, all_marks_weigh jss)
+
   links_few : (js : List (Option X)) → length (links_of js) ≤ length js
   links_few [] = omega arith
   links_few (Some x ∷ js) = let h = links_few js in omega arith
@@ -80,6 +93,7 @@ module _ {L : Type 0} where
       let whole : v.put ≡ gone ++ items = sym put ∙ knows.parted.whole in
       let once : EachOnce v.taken gone = subst (λ l. EachOnce l gone) taken knows.parted.each_once in
       let took : links_taken v ≡ length (links_of gone) = sym (all_weigh v.taken) ∙ once is_link ∙ links_weigh gone in
+      let marks : marks_taken v ≡ marks_of gone = sym (all_marks_weigh v.taken) ∙ once is_mark ∙ marks_weigh gone in
       let puts : links_put v ≡ length (links_of gone) + length (links_of items) = ap (λ l. length (links_of l)) whole ∙ ap length (links_of-append gone items) ∙ length-append (links_of gone) (links_of items) in
       let few = links_few items in
       let less = knows.few in
@@ -89,7 +103,7 @@ module _ {L : Type 0} where
         rest = items;
         parted = record { whole = whole; each_once = once; in_order = subst (λ l. EachInOrder l gone) taken knows.parted.in_order };
         counted = rest;
-        closed = λ p. rest ∙ ap length (none_behind gone items (subst MarksBehind (put ∙ whole) knows.behind) p);
+        closed = λ p. rest ∙ ap length (none_behind gone items (subst MarksBehind (put ∙ whole) knows.behind) (omega arith));
       }
 
   -- what a pass keeps beside what it knows
@@ -135,8 +149,8 @@ module _ {L : Type 0} where
   sound_join v u w a b s t is = subst (λ (x : Hand L). Sound x ((a + b) % 2 ^ 64)) (sym is) (record {
     counted =
         ap (λ n. ((a + b) % 2 ^ 64 + n) % 2 ^ 64) (sum_by-append (λ js. length (links_of js)) v.taken u.taken)
-            ∙ both_counts a b (links_taken v) (links_taken u) (links_put v) (links_put u) s.counted t.counted
-            ∙ ap (λ n. n % 2 ^ 64) (sym (ap length (links_of-append v.put u.put) ∙ length-append (links_of v.put) (links_of u.put)));
+        ∙ both_counts a b (links_taken v) (links_taken u) (links_put v) (links_put u) s.counted t.counted
+        ∙ ap (λ n. n % 2 ^ 64) (sym (ap length (links_of-append v.put u.put) ∙ length-append (links_of v.put) (links_of u.put)));
     takes = let e = length-append v.taken u.taken in let t = s.takes in omega arith;
     apart = neither v.owner u.owner s.apart t.apart;
     none_made = let m = s.none_made in let n = t.none_made in omega arith;

@@ -119,24 +119,24 @@ module _ {L : Type 0} where
       let t : State L = record { owner = s.owner; first = length vs; made = s.made + 1; put = s.put; gone = s.gone } in
       let not_first : (j : ℕ) (u : Hand L) → get_elem? views j ≡ some u → u.first ≡ false = no_first s views k.each none in
       let each : Each t vs = each-set t views seat w
-          (record {
-            owner = λ p. ((mine.owner p).0, ap (λ n. n + 1) (mine.owner p).1);
-            other = λ p. absurd (true≢false (sym own ∙ p));
-            first = λ p. absurd (true≢false (sym p ∙ not_first seat v at));
-            later = mine.later;
-            idle = mine.idle;
-            order = mine.order;
-          })
-          (λ j u apart e.
-            let theirs = k.each j u e in
-            record {
-              owner = λ p. absurd (apart ((theirs.owner p).0 ∙ sym (mine.owner own).0));
-              other = theirs.other;
-              first = λ p. absurd (true≢false (sym p ∙ not_first j u e));
-              later = theirs.later;
-              idle = theirs.idle;
-              order = theirs.order;
-            }) in
+      (record {
+        owner = λ p. ((mine.owner p).0, ap (λ n. n + 1) (mine.owner p).1);
+        other = λ p. absurd (true≢false (sym own ∙ p));
+        first = λ p. absurd (true≢false (sym p ∙ not_first seat v at));
+        later = mine.later;
+        idle = mine.idle;
+        order = mine.order;
+      })
+      (λ j u apart e.
+      let theirs = k.each j u e in
+      record {
+        owner = λ p. absurd (apart ((theirs.owner p).0 ∙ sym (mine.owner own).0));
+        other = theirs.other;
+        first = λ p. absurd (true≢false (sym p ∙ not_first j u e));
+        later = theirs.later;
+        idle = theirs.idle;
+        order = theirs.order;
+      }) in
       let firsts_none : sum_by is_first views ≡ 0 = total-none took is_first views (λ j u e _. ap one_if (not_first j u e)) none in
       record {
         state = t;
@@ -162,24 +162,24 @@ module _ {L : Type 0} where
       let new : Hand L = new_hand false in
       let t : State L = record { owner = s.owner; first = s.first; made = s.made + 1; put = s.put; gone = s.gone } in
       let each : Each t vs = each-set t views seat w
-          (record {
-            owner = λ p. ((mine.owner p).0, ap (λ n. n + 1) (mine.owner p).1);
-            other = λ p. absurd (true≢false (sym own ∙ p));
-            first = mine.first;
-            later = mine.later;
-            idle = mine.idle;
-            order = mine.order;
-          })
-          (λ j u apart e.
-            let theirs = k.each j u e in
-            record {
-              owner = λ p. absurd (apart ((theirs.owner p).0 ∙ sym (mine.owner own).0));
-              other = theirs.other;
-              first = theirs.first;
-              later = theirs.later;
-              idle = theirs.idle;
-              order = theirs.order;
-            }) in
+      (record {
+        owner = λ p. ((mine.owner p).0, ap (λ n. n + 1) (mine.owner p).1);
+        other = λ p. absurd (true≢false (sym own ∙ p));
+        first = mine.first;
+        later = mine.later;
+        idle = mine.idle;
+        order = mine.order;
+      })
+      (λ j u apart e.
+      let theirs = k.each j u e in
+      record {
+        owner = λ p. absurd (apart ((theirs.owner p).0 ∙ sym (mine.owner own).0));
+        other = theirs.other;
+        first = theirs.first;
+        later = theirs.later;
+        idle = theirs.idle;
+        order = theirs.order;
+      }) in
       record {
         state = t;
         whole = k.whole;
@@ -229,15 +229,15 @@ module _ {L : Type 0} where
                 order = mine.order;
               })
               (λ j u apart e.
-                let theirs = k.each j u e in
-                record {
-                  owner = theirs.owner;
-                  other = theirs.other;
-                  first = λ p. absurd (apart ((theirs.first p).0 ∙ sym (mine.first first).0));
-                  later = theirs.later;
-                  idle = theirs.idle;
-                  order = theirs.order;
-                });
+              let theirs = k.each j u e in
+              record {
+                owner = theirs.owner;
+                other = theirs.other;
+                first = λ p. absurd (apart ((theirs.first p).0 ∙ sym (mine.first first).0));
+                later = theirs.later;
+                idle = theirs.idle;
+                order = theirs.order;
+              });
         },
         refl,
       )
@@ -263,8 +263,8 @@ module _ {L : Type 0} where
           each = each-set t views seat w
               (record { owner = mine.owner; other = mine.other; first = mine.first; later = mine.later; idle = λ z. absurd (omega arith); order = each_in_order-own v.taken s.gone x mine.order })
               (λ j u apart e.
-                let theirs = k.each j u e in
-                record { owner = theirs.owner; other = theirs.other; first = theirs.first; later = theirs.later; idle = theirs.idle; order = each_in_order-push u.taken s.gone x theirs.order });
+              let theirs = k.each j u e in
+              record { owner = theirs.owner; other = theirs.other; first = theirs.first; later = theirs.later; idle = theirs.idle; order = each_in_order-push u.taken s.gone x theirs.order });
         },
         refl,
       )
@@ -281,16 +281,16 @@ module _ {L : Type 0} where
       let t : State L = record { owner = cond u.owner seat s.owner; first = cond u.first seat s.first; made = s.made; put = s.put; gone = s.gone } in
       let not_both : v.first ≡ true → u.first ≡ true → ⊥ = λ p q. two ((theirs.first q).0 ∙ sym (mine.first p).0) in
       let J : Fits t seat both = record {
-            owner = merge_owner v.owner u.owner seat other s.owner s.made v.made u.made two mine.owner mine.other theirs.owner theirs.other;
-            other = merge_other v.owner u.owner v.made u.made mine.other theirs.other;
-            first = merge_first v.first u.first seat other s.first v.put u.put s.put two mine.first mine.later theirs.first theirs.later;
-            later = merge_later v.first u.first v.put u.put mine.later theirs.later;
-            idle = λ z. neither v.first u.first (mine.idle (omega (arith, length-append v.taken u.taken))) (theirs.idle (omega (arith, length-append v.taken u.taken)));
-            order = each_in_order-append v.taken u.taken s.gone mine.order theirs.order;
-          } in
+        owner = merge_owner v.owner u.owner seat other s.owner s.made v.made u.made two mine.owner mine.other theirs.owner theirs.other;
+        other = merge_other v.owner u.owner v.made u.made mine.other theirs.other;
+        first = merge_first v.first u.first seat other s.first v.put u.put s.put two mine.first mine.later theirs.first theirs.later;
+        later = merge_later v.first u.first v.put u.put mine.later theirs.later;
+        idle = λ z. neither v.first u.first (mine.idle (omega (arith, length-append v.taken u.taken))) (theirs.idle (omega (arith, length-append v.taken u.taken)));
+        order = each_in_order-append v.taken u.taken s.gone mine.order theirs.order;
+      } in
       let S : Fits t other spent = record { owner = λ p. absurd (true≢false (sym p)); other = λ _. refl; first = λ p. absurd (true≢false (sym p)); later = λ _. refl; idle = λ _. refl; order = tt } in
       let total : (f : Hand L → ℕ) → f both ≡ f v + f u → f spent ≡ 0 → sum_by f (set vs other spent) ≡ sum_by f views =
-          λ f e z. let a = total-set f views seat v both at in let b = total-set f vs other u spent at' in omega arith in
+      λ f e z. let a = total-set f views seat v both at in let b = total-set f vs other u spent at' in omega arith in
       record {
         state = t;
         whole = k.whole;
@@ -302,16 +302,16 @@ module _ {L : Type 0} where
         each_once = λ h. total (λ w. weight h w.taken) (sum_by-append (sum_by h) v.taken u.taken) refl ∙ k.each_once h;
         each = each-set t vs other spent S
             (λ j w apart e. ⊎_elim (λ (x : (j ≡ seat) × (both ≡ w)). subst (λ (y : ℕ × Hand L). Fits t y.0 y.1) (λ i. (sym x.0 i, x.1 i)) J)
-                (λ (x : (j ≢ seat) × (get_elem? views j ≡ some w)).
-                  let others = k.each j w x.1 in
-                  record {
-                    owner = λ p. (stays u.owner seat other s.owner j (λ q. (theirs.owner q).0) apart (others.owner p).0, (others.owner p).1);
-                    other = others.other;
-                    first = λ p. (stays u.first seat other s.first j (λ q. (theirs.first q).0) apart (others.first p).0, (others.first p).1);
-                    later = others.later;
-                    idle = others.idle;
-                    order = others.order;
-                  }) (at_set views seat j both w e));
+            (λ (x : (j ≢ seat) × (get_elem? views j ≡ some w)).
+            let others = k.each j w x.1 in
+            record {
+              owner = λ p. (stays u.owner seat other s.owner j (λ q. (theirs.owner q).0) apart (others.owner p).0, (others.owner p).1);
+              other = others.other;
+              first = λ p. (stays u.first seat other s.first j (λ q. (theirs.first q).0) apart (others.first p).0, (others.first p).1);
+              later = others.later;
+              idle = others.idle;
+              order = others.order;
+            }) (at_set views seat j both w e));
       }
 
   pub learns : (seat : ℕ) (v : Hand L) → v.owner ≡ true → v.made ≡ length v.taken → 0 < length v.taken → Learns Kept seat v (KnowsAll v)

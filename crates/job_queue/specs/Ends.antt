@@ -1,8 +1,8 @@
 -- What is known once all passes are joined into one.
 use Rattle.std.specs.Prelude.{◌≡◌, ℕ, ◌<◌, ◌^◌, List, [], ◌++◌, Option, length}
-use Rattle.std.specs.List.{sum_by}
 use Rattle.job_queue.specs.declared.hand.Hand.{Hand}
-use Rattle.job_queue.specs.Lists.{links_of, marks_of, MarksBehind, EachInOrder, EachOnce}
+use Rattle.job_queue.specs.Lists.{links_of, MarksBehind, EachInOrder, EachOnce}
+use Rattle.job_queue.specs.Hands.{marks_taken}
 
 module _ {L : Type 0} where
   -- of what was put, some was taken, and then the rest is left
@@ -28,4 +28,4 @@ module _ {L : Type 0} where
     pub parted : Parted v gone rest
     pub counted : left ≡ length (links_of rest)
     -- where a mark was taken, no link is left
-    pub closed : 0 < marks_of gone → left ≡ 0
+    pub closed : 0 < marks_taken v → left ≡ 0

@@ -2,7 +2,7 @@
 use Rattle.std.specs.Prelude.{◌≡◌, ℕ, ◌+◌, Bool, true, false, ◌||◌, List, [], ◌∷◌, ◌++◌, Option, Some, None, length, replicate}
 use Rattle.std.specs.List.{sum_by}
 use Rattle.job_queue.specs.declared.hand.Hand.{Hand}
-use Rattle.job_queue.specs.Lists.{links_of, weight, add_own}
+use Rattle.job_queue.specs.Lists.{links_of, marks_of, add_own}
 
 module _ {L : Type 0} where
   -- how many links were put with it
@@ -12,6 +12,10 @@ module _ {L : Type 0} where
   -- how many links were taken with it, and with the passes that were joined into it
   abbrev pub links_taken : Hand L → ℕ
   links_taken v = sum_by (λ js. length (links_of js)) v.taken
+
+  -- how many closing marks were taken, in the same way
+  abbrev pub marks_taken : Hand L → ℕ
+  marks_taken v = sum_by marks_of v.taken
 
   -- how many passes are in it: itself, and those that were joined into it
   abbrev pub passes_in : Hand L → ℕ
