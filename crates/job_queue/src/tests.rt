@@ -24,23 +24,23 @@ fn link_at(place: u64) -> u64 {
     place.wrapping_mul(7)
 }
 
-fn put_all<R: Wait>(rt: &R, jobs: &Jobs<u64>, mut pass: JobPass<u64>) -> JobPass<u64>
-    requires queue { IsJobPassOf jobs.now pass }
+fn put_all<R: Wait>(rt: &R, line: &JobLine<u64>, mut pass: JobPass<u64>) -> JobPass<u64>
+    requires queue { IsJobPassOf line.now pass }
     requires new { hand_of pass ≡ new_hand true }
-    ensures queue { IsJobPassOf jobs.now result }
+    ensures queue { IsJobPassOf line.now result }
     ensures one { passes_in (hand_of result) ≡ 1 }
 {
     for place in 0..LINKS {
-        jobs.put_link(rt, &mut pass, place, link_at(place));
+        line.put_link(rt, &mut pass, place, link_at(place));
     }
-    jobs.close_jobs(rt, &mut pass, 3);
+    line.close_jobs(rt, &mut pass, 3);
     pass
 }
 
-fn take_all<R: Wait>(rt: &R, jobs: &Jobs<u64>, mut pass: JobPass<u64>) -> Took
-    requires queue { IsJobPassOf jobs.now pass }
+fn take_all<R: Wait>(rt: &R, line: &JobLine<u64>, mut pass: JobPass<u64>) -> Took
+    requires queue { IsJobPassOf line.now pass }
     requires one { passes_in (hand_of pass) ≡ 1 }
-    ensures queue { IsJobPassOf jobs.now result.pass }
+    ensures queue { IsJobPassOf line.now result.pass }
     ensures one { passes_in (hand_of result.pass) ≡ 1 }
 {
     let mut links = 0u64;
@@ -48,7 +48,7 @@ fn take_all<R: Wait>(rt: &R, jobs: &Jobs<u64>, mut pass: JobPass<u64>) -> Took
     let mut next = 0u64;
     let mut in_order = true;
     for _ in rt.forever() {
-        let Some((place, link)) = jobs.take_link(rt, &mut pass) else {
+        let Some((place, link)) = line.take_link(rt, &mut pass) else {
             return Took {
                 pass,
                 links,
@@ -66,49 +66,49 @@ fn take_all<R: Wait>(rt: &R, jobs: &Jobs<u64>, mut pass: JobPass<u64>) -> Took
 
 fn take_twice<R: Threads + Wait + Sync>(
     rt: &R,
-    jobs: &Jobs<u64>,
+    line: &JobLine<u64>,
     one: JobPass<u64>,
     two: JobPass<u64>,
 ) -> (Took, Took)
-    requires one { IsJobPassOf jobs.now one × (passes_in (hand_of one) ≡ 1) }
-    requires two { IsJobPassOf jobs.now two × (passes_in (hand_of two) ≡ 1) }
-    ensures one { IsJobPassOf jobs.now result.0.pass × (passes_in (hand_of result.0.pass) ≡ 1) }
-    ensures two { IsJobPassOf jobs.now result.1.pass × (passes_in (hand_of result.1.pass) ≡ 1) }
+    requires one { IsJobPassOf line.now one × (passes_in (hand_of one) ≡ 1) }
+    requires two { IsJobPassOf line.now two × (passes_in (hand_of two) ≡ 1) }
+    ensures one { IsJobPassOf line.now result.0.pass × (passes_in (hand_of result.0.pass) ≡ 1) }
+    ensures two { IsJobPassOf line.now result.1.pass × (passes_in (hand_of result.1.pass) ≡ 1) }
 {
     join(
         rt,
         move ||
-            requires { IsSync R.row × IsJobPassOf jobs.now one × (passes_in (hand_of one) ≡ 1) }
-            ensures { IsJobPassOf jobs.entry.now result.pass × (passes_in (hand_of result.pass) ≡ 1) }
-        { take_all(rt, jobs, one) },
+            requires { IsSync R.row × IsJobPassOf line.now one × (passes_in (hand_of one) ≡ 1) }
+            ensures { IsJobPassOf line.entry.now result.pass × (passes_in (hand_of result.pass) ≡ 1) }
+        { take_all(rt, line, one) },
         move ||
-            requires { IsSync R.row × IsJobPassOf jobs.now two × (passes_in (hand_of two) ≡ 1) }
-            ensures { IsJobPassOf jobs.entry.now result.pass × (passes_in (hand_of result.pass) ≡ 1) }
-        { take_all(rt, jobs, two) },
+            requires { IsSync R.row × IsJobPassOf line.now two × (passes_in (hand_of two) ≡ 1) }
+            ensures { IsJobPassOf line.entry.now result.pass × (passes_in (hand_of result.pass) ≡ 1) }
+        { take_all(rt, line, two) },
     )
 }
 
 fn put_and_take<R: Threads + Wait + Sync>(
     rt: &R,
-    jobs: &Jobs<u64>,
+    line: &JobLine<u64>,
     first: JobPass<u64>,
     taker: JobPass<u64>,
 ) -> (JobPass<u64>, Took)
-    requires first { IsJobPassOf jobs.now first × (hand_of first ≡ new_hand true) }
-    requires taker { IsJobPassOf jobs.now taker × (passes_in (hand_of taker) ≡ 1) }
-    ensures first { IsJobPassOf jobs.now result.0 × (passes_in (hand_of result.0) ≡ 1) }
-    ensures taker { IsJobPassOf jobs.now result.1.pass × (passes_in (hand_of result.1.pass) ≡ 1) }
+    requires first { IsJobPassOf line.now first × (hand_of first ≡ new_hand true) }
+    requires taker { IsJobPassOf line.now taker × (passes_in (hand_of taker) ≡ 1) }
+    ensures first { IsJobPassOf line.now result.0 × (passes_in (hand_of result.0) ≡ 1) }
+    ensures taker { IsJobPassOf line.now result.1.pass × (passes_in (hand_of result.1.pass) ≡ 1) }
 {
     join(
         rt,
         move ||
-            requires { IsSync R.row × IsJobPassOf jobs.now first × (hand_of first ≡ new_hand true) }
-            ensures { IsJobPassOf jobs.entry.now result × (passes_in (hand_of result) ≡ 1) }
-        { put_all(rt, jobs, first) },
+            requires { IsSync R.row × IsJobPassOf line.now first × (hand_of first ≡ new_hand true) }
+            ensures { IsJobPassOf line.entry.now result × (passes_in (hand_of result) ≡ 1) }
+        { put_all(rt, line, first) },
         move ||
-            requires { IsSync R.row × IsJobPassOf jobs.now taker × (passes_in (hand_of taker) ≡ 1) }
-            ensures { IsJobPassOf jobs.entry.now result.pass × (passes_in (hand_of result.pass) ≡ 1) }
-        { take_all(rt, jobs, taker) },
+            requires { IsSync R.row × IsJobPassOf line.now taker × (passes_in (hand_of taker) ≡ 1) }
+            ensures { IsJobPassOf line.entry.now result.pass × (passes_in (hand_of result.pass) ≡ 1) }
+        { take_all(rt, line, taker) },
     )
 }
 
@@ -133,7 +133,7 @@ fn shared<R: Threads + Wait + Sync>(
     let one = jobs.pass();
     let two = jobs.pass();
     let three = jobs.pass();
-    let line = &jobs;
+    let line = jobs.line();
     let ((mut all, one), (two, three)) = join(
         rt,
         move ||
@@ -173,10 +173,10 @@ fn three_takers_end_at_their_marks(rt: HostRuntime) -> Result<(), Fail> {
 fn what_is_left_is_counted(rt: HostRuntime) -> Result<(), Fail> {
     let mut jobs = Jobs::new(rt.alloc(), 3)?;
     let mut first = jobs.pass();
-    jobs.put_link(&rt, &mut first, 4, 40u8);
-    jobs.put_link(&rt, &mut first, 9, 90u8);
-    assert_eq!(rt; jobs.take_link(&rt, &mut first), Some((4, 40)));
-    jobs.put_link(&rt, &mut first, 1, 10u8);
+    jobs.line().put_link(&rt, &mut first, 4, 40u8);
+    jobs.line().put_link(&rt, &mut first, 9, 90u8);
+    assert_eq!(rt; jobs.line().take_link(&rt, &mut first), Some((4, 40)));
+    jobs.line().put_link(&rt, &mut first, 1, 10u8);
     assert_eq!(rt; jobs.end_jobs(first), 2);
     Ok(())
 }
@@ -185,10 +185,10 @@ fn what_is_left_is_counted(rt: HostRuntime) -> Result<(), Fail> {
 fn a_mark_in_a_queue_of_one(rt: HostRuntime) -> Result<(), Fail> {
     let mut jobs = Jobs::new(rt.alloc(), 1)?;
     let mut first = jobs.pass();
-    jobs.put_link(&rt, &mut first, 2, 20u8);
-    assert_eq!(rt; jobs.take_link(&rt, &mut first), Some((2, 20)));
-    jobs.close_jobs(&rt, &mut first, 1);
-    assert_eq!(rt; jobs.take_link(&rt, &mut first), None);
+    jobs.line().put_link(&rt, &mut first, 2, 20u8);
+    assert_eq!(rt; jobs.line().take_link(&rt, &mut first), Some((2, 20)));
+    jobs.line().close_jobs(&rt, &mut first, 1);
+    assert_eq!(rt; jobs.line().take_link(&rt, &mut first), None);
     assert_eq!(rt; jobs.end_jobs(first), 0);
     Ok(())
 }
