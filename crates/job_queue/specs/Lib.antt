@@ -3,3 +3,4 @@ pub mod Hands
 pub mod Lists
 pub mod Queues
 pub mod Rule
+pub mod Passes

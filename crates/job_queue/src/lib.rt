@@ -4,13 +4,13 @@
 
 mod hand;
 mod jobs;
-mod line;
+mod links;
 mod pass;
 mod rule;
 
 pub use hand::{Hand, Job};
 pub use jobs::Jobs;
-pub use line::JobLine;
+pub use links::Links;
 pub use pass::JobPass;
 
 #[cfg(test)]

@@ -17,7 +17,7 @@ impl<L> Protocol<Option<(u64, L)>, Hand<L>> for Handing {
 }
 
 /// A queue of jobs under its rule.
-pub(crate) type Ruled<L> = RuledArrayQueue<Job<L>, Hand<L>, Handing>;
+pub(crate) type Line<L> = RuledArrayQueue<Job<L>, Hand<L>, Handing>;
 
 /// A pass is made of the queue's own.
 pub(crate) struct Made;

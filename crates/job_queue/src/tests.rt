@@ -1,131 +1,137 @@
-ghost use Rattle.std.specs.Prelude.{◌≡◌, ◌<◌, true, IfOk};
-ghost use Rattle.std.specs.Thread.{IsSync};
-ghost use Rattle.job_queue.specs.Hands.{new_hand, passes_in};
-ghost use Rattle.job_queue.specs.Queues.{hand_of, IsJobPassOf};
-
 use super::*;
 use std::alloc::{AllocError, Global};
 use std::sync::Wait;
 use std::test::*;
 use std::thread::{Threads, join};
 
-const LINKS: u64 = 1000;
+ghost use Rattle.std.specs.Prelude.{◌≡◌, ◌+◌, ◌<◌, true};
+ghost use Rattle.job_queue.specs.Hands.{passes_in, new_hand};
+ghost use Rattle.job_queue.specs.Passes.{hand_of, IsJobPassOf};
 
-// What one taker took, and whether each link had its place and came behind those before it.
+// What takers saw: how many links, the sum of their places, and whether each came with its place and behind those before.
 #[derive(Drop)]
-struct Took {
-    pass: JobPass<u64>,
+struct Seen {
     links: u64,
     sum: u64,
     in_order: bool,
 }
 
-fn link_at(place: u64) -> u64 {
-    place.wrapping_mul(7)
+fn both(one: Seen, two: Seen) -> Seen {
+    Seen {
+        links: one.links.wrapping_add(two.links),
+        sum: one.sum.wrapping_add(two.sum),
+        in_order: one.in_order && two.in_order,
+    }
 }
 
-fn put_all<R: Wait>(rt: &R, line: &JobLine<u64>, mut pass: JobPass<u64>) -> JobPass<u64>
-    requires queue { IsJobPassOf line.now pass }
-    requires new { hand_of pass ≡ new_hand true }
-    ensures queue { IsJobPassOf line.now result }
-    ensures one { passes_in (hand_of result) ≡ 1 }
+
+#[tactic(auto, using(crate::proofs::Trials::link_put))]
+fn put_all<R: Wait>(
+    rt: &R,
+    links: &Links<u64>,
+    mut pass: JobPass<u64>,
+    count: u64,
+    takers: u32,
+) -> JobPass<u64>
+    requires { IsJobPassOf links.now pass × (hand_of pass ≡ new_hand true) }
+    ensures { IsJobPassOf links.now result × (passes_in (hand_of result) ≡ 1) }
 {
-    for place in 0..LINKS {
-        line.put_link(rt, &mut pass, place, link_at(place));
+    for place in 0..count {
+        links.put_link(rt, &mut pass, place, place.wrapping_mul(7));
     }
-    line.close_jobs(rt, &mut pass, 3);
+    links.close_jobs(rt, &mut pass, takers);
     pass
 }
 
-fn take_all<R: Wait>(rt: &R, line: &JobLine<u64>, mut pass: JobPass<u64>) -> Took
-    requires queue { IsJobPassOf line.now pass }
-    requires one { passes_in (hand_of pass) ≡ 1 }
-    ensures queue { IsJobPassOf line.now result.pass }
-    ensures one { passes_in (hand_of result.pass) ≡ 1 }
+
+#[tactic(auto, using(crate::proofs::Trials::passes_stay))]
+fn take_all<R: Wait>(
+    rt: &R,
+    links: &Links<u64>,
+    mut pass: JobPass<u64>,
+) -> (JobPass<u64>, Seen)
+    requires { IsJobPassOf links.now pass }
+    ensures { IsJobPassOf links.now result.0 × (passes_in (hand_of result.0) ≡ passes_in (hand_of pass)) }
 {
-    let mut links = 0u64;
+    let mut count = 0u64;
     let mut sum = 0u64;
-    let mut next = 0u64;
     let mut in_order = true;
+    let mut next = 0u64;
     for _ in rt.forever() {
-        let Some((place, link)) = line.take_link(rt, &mut pass) else {
-            return Took {
-                pass,
-                links,
-                sum,
-                in_order,
-            };
+        let Some((place, link)) = links.take_link(rt, &mut pass) else {
+            break;
         };
-        in_order = in_order && next <= place && link == link_at(place);
+        in_order = in_order && next <= place && link == place.wrapping_mul(7);
+        count = count.wrapping_add(1);
+        sum = sum.wrapping_add(place);
         next = place.wrapping_add(1);
-        links = links.wrapping_add(1);
-        sum = sum.wrapping_add(link);
     }
-    unreachable!()
+    (
+        pass,
+        Seen {
+            links: count,
+            sum,
+            in_order,
+        },
+    )
 }
 
-fn take_twice<R: Threads + Wait + Sync>(
+fn take_by_two<R: Threads + Wait + Sync>(
     rt: &R,
-    line: &JobLine<u64>,
+    links: &Links<u64>,
     one: JobPass<u64>,
     two: JobPass<u64>,
-) -> (Took, Took)
-    requires one { IsJobPassOf line.now one × (passes_in (hand_of one) ≡ 1) }
-    requires two { IsJobPassOf line.now two × (passes_in (hand_of two) ≡ 1) }
-    ensures one { IsJobPassOf line.now result.0.pass × (passes_in (hand_of result.0.pass) ≡ 1) }
-    ensures two { IsJobPassOf line.now result.1.pass × (passes_in (hand_of result.1.pass) ≡ 1) }
+) -> (JobPass<u64>, Seen)
+    requires { IsJobPassOf links.now one × IsJobPassOf links.now two }
+    ensures { IsJobPassOf links.now result.0 × (passes_in (hand_of result.0) ≡ passes_in (hand_of one) + passes_in (hand_of two)) }
 {
-    join(
+    let ((mut pass, first), (other, second)) = join(
         rt,
         move ||
-            requires { IsSync R.row × IsJobPassOf line.now one × (passes_in (hand_of one) ≡ 1) }
-            ensures { IsJobPassOf line.entry.now result.pass × (passes_in (hand_of result.pass) ≡ 1) }
-        { take_all(rt, line, one) },
+            requires { IsJobPassOf links.now one }
+            ensures { IsJobPassOf links.entry.now result.0 × (passes_in (hand_of result.0) ≡ passes_in (hand_of one)) }
+        { take_all(rt, links, one) },
         move ||
-            requires { IsSync R.row × IsJobPassOf line.now two × (passes_in (hand_of two) ≡ 1) }
-            ensures { IsJobPassOf line.entry.now result.pass × (passes_in (hand_of result.pass) ≡ 1) }
-        { take_all(rt, line, two) },
-    )
+            requires { IsJobPassOf links.now two }
+            ensures { IsJobPassOf links.entry.now result.0 × (passes_in (hand_of result.0) ≡ passes_in (hand_of two)) }
+        { take_all(rt, links, two) },
+    );
+    links.join_jobs(&mut pass, other);
+    (pass, both(first, second))
 }
 
-fn put_and_take<R: Threads + Wait + Sync>(
+fn take_by_three<R: Threads + Wait + Sync>(
     rt: &R,
-    line: &JobLine<u64>,
-    first: JobPass<u64>,
-    taker: JobPass<u64>,
-) -> (JobPass<u64>, Took)
-    requires first { IsJobPassOf line.now first × (hand_of first ≡ new_hand true) }
-    requires taker { IsJobPassOf line.now taker × (passes_in (hand_of taker) ≡ 1) }
-    ensures first { IsJobPassOf line.now result.0 × (passes_in (hand_of result.0) ≡ 1) }
-    ensures taker { IsJobPassOf line.now result.1.pass × (passes_in (hand_of result.1.pass) ≡ 1) }
+    links: &Links<u64>,
+    one: JobPass<u64>,
+    two: JobPass<u64>,
+    three: JobPass<u64>,
+) -> (JobPass<u64>, Seen)
+    requires { IsJobPassOf links.now one × IsJobPassOf links.now two × IsJobPassOf links.now three }
+    ensures { IsJobPassOf links.now result.0 × (passes_in (hand_of result.0) ≡ passes_in (hand_of one) + (passes_in (hand_of two) + passes_in (hand_of three))) }
 {
-    join(
+    let ((mut pass, first), (other, second)) = join(
         rt,
         move ||
-            requires { IsSync R.row × IsJobPassOf line.now first × (hand_of first ≡ new_hand true) }
-            ensures { IsJobPassOf line.entry.now result × (passes_in (hand_of result) ≡ 1) }
-        { put_all(rt, line, first) },
+            requires { IsJobPassOf links.now one }
+            ensures { IsJobPassOf links.entry.now result.0 × (passes_in (hand_of result.0) ≡ passes_in (hand_of one)) }
+        { take_all(rt, links, one) },
         move ||
-            requires { IsSync R.row × IsJobPassOf line.now taker × (passes_in (hand_of taker) ≡ 1) }
-            ensures { IsJobPassOf line.entry.now result.pass × (passes_in (hand_of result.pass) ≡ 1) }
-        { take_all(rt, line, taker) },
-    )
+            requires { IsJobPassOf links.now two × IsJobPassOf links.now three }
+            ensures { IsJobPassOf links.entry.now result.0 × (passes_in (hand_of result.0) ≡ passes_in (hand_of two) + passes_in (hand_of three)) }
+        { take_by_two(rt, links, two, three) },
+    );
+    links.join_jobs(&mut pass, other);
+    (pass, both(first, second))
 }
 
-// What three takers took of the links, and how many were left.
-#[derive(Drop)]
-struct Done {
-    links: u64,
-    sum: u64,
-    in_order: bool,
-    left: u64,
-}
-
-fn shared<R: Threads + Wait + Sync>(
+// Puts so many links for three takers, and answers what they saw and what is left.
+fn hand_out<R: Threads + Wait + Sync>(
     rt: &R,
     alloc: Global,
     capacity: usize,
-) -> Result<Done, AllocError>
+    count: u64,
+) -> Result<(Seen, u64), AllocError>
     requires { 0 < capacity }
 {
     let mut jobs = Jobs::new(alloc, capacity)?;
@@ -133,62 +139,43 @@ fn shared<R: Threads + Wait + Sync>(
     let one = jobs.pass();
     let two = jobs.pass();
     let three = jobs.pass();
-    let line = jobs.line();
-    let ((mut all, one), (two, three)) = join(
+    let links = jobs.links();
+    let (mut pass, (other, seen)) = join(
         rt,
         move ||
-            requires { IsSync R.row × (IsJobPassOf line.now first × (hand_of first ≡ new_hand true)) × (IsJobPassOf line.now one × (passes_in (hand_of one) ≡ 1)) }
-            ensures { (IsJobPassOf line.entry.now result.0 × (passes_in (hand_of result.0) ≡ 1)) × (IsJobPassOf line.entry.now result.1.pass × (passes_in (hand_of result.1.pass) ≡ 1)) }
-        { put_and_take(rt, line, first, one) },
+            requires { IsJobPassOf links.now first × (hand_of first ≡ new_hand true) }
+            ensures { IsJobPassOf links.entry.now result × (passes_in (hand_of result) ≡ 1) }
+        { put_all(rt, links, first, count, 3) },
         move ||
-            requires { IsSync R.row × (IsJobPassOf line.now two × (passes_in (hand_of two) ≡ 1)) × (IsJobPassOf line.now three × (passes_in (hand_of three) ≡ 1)) }
-            ensures { (IsJobPassOf line.entry.now result.0.pass × (passes_in (hand_of result.0.pass) ≡ 1)) × (IsJobPassOf line.entry.now result.1.pass × (passes_in (hand_of result.1.pass) ≡ 1)) }
-        { take_twice(rt, line, two, three) },
+            requires { IsJobPassOf links.now one × IsJobPassOf links.now two × IsJobPassOf links.now three }
+            ensures { IsJobPassOf links.entry.now result.0 × (passes_in (hand_of result.0) ≡ passes_in (hand_of one) + (passes_in (hand_of two) + passes_in (hand_of three))) }
+        { take_by_three(rt, links, one, two, three) },
     );
-    line.join_jobs(&mut all, one.pass);
-    line.join_jobs(&mut all, two.pass);
-    line.join_jobs(&mut all, three.pass);
-    let left = jobs.end_jobs(all);
-    Ok(Done {
-        links: one.links.wrapping_add(two.links).wrapping_add(three.links),
-        sum: one.sum.wrapping_add(two.sum).wrapping_add(three.sum),
-        in_order: one.in_order && two.in_order && three.in_order,
-        left,
-    })
+    links.join_jobs(&mut pass, other);
+    let left = jobs.end_jobs(pass);
+    Ok((seen, left))
 }
 
 #[test]
 fn three_takers_end_at_their_marks(rt: HostRuntime) -> Result<(), Fail> {
-    for capacity in [1usize, 16] {
-        let done = shared(&rt, rt.alloc(), capacity)?;
-        assert_eq!(rt; done.links, LINKS);
-        assert_eq!(rt; done.sum, 7 * (LINKS * (LINKS - 1) / 2));
-        assert_eq!(rt; done.in_order, true);
-        assert_eq!(rt; done.left, 0);
-    }
+    let (seen, left) = hand_out(&rt, rt.alloc(), 8, 1000)?;
+    assert!(rt; seen.in_order);
+    assert_eq!(rt; (seen.links, seen.sum, left), (1000, 499500, 0));
+    let (seen, left) = hand_out(&rt, rt.alloc(), 1, 100)?;
+    assert!(rt; seen.in_order);
+    assert_eq!(rt; (seen.links, seen.sum, left), (100, 4950, 0));
     Ok(())
 }
 
 #[test]
-fn what_is_left_is_counted(rt: HostRuntime) -> Result<(), Fail> {
-    let mut jobs = Jobs::new(rt.alloc(), 3)?;
-    let mut first = jobs.pass();
-    jobs.line().put_link(&rt, &mut first, 4, 40u8);
-    jobs.line().put_link(&rt, &mut first, 9, 90u8);
-    assert_eq!(rt; jobs.line().take_link(&rt, &mut first), Some((4, 40)));
-    jobs.line().put_link(&rt, &mut first, 1, 10u8);
-    assert_eq!(rt; jobs.end_jobs(first), 2);
-    Ok(())
-}
-
-#[test]
-fn a_mark_in_a_queue_of_one(rt: HostRuntime) -> Result<(), Fail> {
-    let mut jobs = Jobs::new(rt.alloc(), 1)?;
-    let mut first = jobs.pass();
-    jobs.line().put_link(&rt, &mut first, 2, 20u8);
-    assert_eq!(rt; jobs.line().take_link(&rt, &mut first), Some((2, 20)));
-    jobs.line().close_jobs(&rt, &mut first, 1);
-    assert_eq!(rt; jobs.line().take_link(&rt, &mut first), None);
-    assert_eq!(rt; jobs.end_jobs(first), 0);
+fn links_that_no_pass_took_are_left(rt: HostRuntime) -> Result<(), Fail> {
+    let mut jobs = Jobs::new(rt.alloc(), 4)?;
+    let mut pass = jobs.pass();
+    let links = jobs.links();
+    links.put_link(&rt, &mut pass, 1, 'a');
+    links.put_link(&rt, &mut pass, 2, 'b');
+    links.put_link(&rt, &mut pass, 3, 'c');
+    assert_eq!(rt; links.take_link(&rt, &mut pass), Some((1, 'a')));
+    assert_eq!(rt; jobs.end_jobs(pass), 2);
     Ok(())
 }

@@ -1,4 +1,4 @@
-//! What threads share of the queue of links.
+//! What threads share of the queue.
 ghost use Rattle.std.specs.Prelude.{◌≡◌, ◌<◌, true, Some, length};
 ghost use Rattle.crossbeam_queue.specs.Passes.{view, IsPassOf};
 ghost use Rattle.job_queue.specs.Hands.{puts, closes, takes, joined};
@@ -6,19 +6,19 @@ ghost use Rattle.job_queue.specs.Lists.{marks_of, MayPut};
 
 use crate::hand::{Hand, Job};
 use crate::pass::JobPass;
-use crate::rule::{Joined, Put, Ruled, Taken};
+use crate::rule::{Joined, Line, Put, Taken};
 use crossbeam_queue::Pass;
 use std::sync::Wait;
 use std::thread;
 
-/// The queue itself, which threads share by reference. Each of them has a pass.
+/// The links and closing marks of a queue, which threads share by reference.
 #[derive(Drop)]
-pub struct JobLine<L> {
-    pub(crate) queue: Ruled<L>,
+pub struct Links<L> {
+    pub(crate) queue: Line<L>,
 }
 
-impl<L> JobLine<L> {
-    ghost use Rattle.job_queue.specs.Queues.{hand_of, IsJobPassOf};
+impl<L> Links<L> {
+    ghost use Rattle.job_queue.specs.Passes.{hand_of, IsJobPassOf};
 
     /// Puts a link with its place behind all that was put, once there is room.
     pub fn put_link<R: Wait>(&self, rt: &R, pass: &mut JobPass<L>, place: u64, link: L)

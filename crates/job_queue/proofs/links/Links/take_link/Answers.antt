@@ -1,7 +1,7 @@
 use Rattle.std.proofs.Common.{sym, ◌∙◌}
 use Rattle.crossbeam_queue.specs.Passes.{view}
 use Rattle.job_queue.proofs.Counts.{sound_some, sound_none}
-use Rattle.job_queue.proofs.line.JobLine.take_link.Goals as goal
+use Rattle.job_queue.proofs.links.Links.take_link.Goals as goal
 
 pub invariant_of-pass : goal.invariant_of-pass
 invariant_of-pass g c =

@@ -1,7 +1,7 @@
 use Rattle.crossbeam_queue.specs.Passes.{view}
 use Rattle.job_queue.proofs.Moves.{merges}
 use Rattle.job_queue.proofs.Counts.{sound_join}
-use Rattle.job_queue.proofs.line.JobLine.join_jobs.Goals as goal
+use Rattle.job_queue.proofs.links.Links.join_jobs.Goals as goal
 
 pub absorb-requires-clause-rule : goal.absorb-requires-clause-rule
 absorb-requires-clause-rule g c = merges _ _ _ _

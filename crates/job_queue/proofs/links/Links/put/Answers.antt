@@ -2,7 +2,7 @@ use Rattle.std.proofs.Common.{arith, sym, subst, ap, ◌∙◌}
 use Rattle.crossbeam_queue.specs.Passes.{view}
 use Rattle.job_queue.specs.Lists.{MayPut}
 use Rattle.job_queue.proofs.Moves.{pushes}
-use Rattle.job_queue.proofs.line.JobLine.put.Goals as goal
+use Rattle.job_queue.proofs.links.Links.put.Goals as goal
 
 pub push_as-requires-clause-rule : goal.push_as-requires-clause-rule
 push_as-requires-clause-rule g c =
