@@ -1,0 +1,4 @@
+mod Lists
+mod Moves
+mod Counts
+pub mod Trials
