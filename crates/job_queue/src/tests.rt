@@ -1,12 +1,12 @@
+ghost use Rattle.std.specs.Prelude.{◌≡◌, ◌+◌, ◌<◌, true};
+ghost use Rattle.job_queue.specs.Hands.{passes_in, new_hand};
+ghost use Rattle.job_queue.specs.Passes.{hand_of, IsJobPassOf};
+
 use super::*;
 use std::alloc::{AllocError, Global};
 use std::sync::Wait;
 use std::test::*;
 use std::thread::{Threads, join};
-
-ghost use Rattle.std.specs.Prelude.{◌≡◌, ◌+◌, ◌<◌, true};
-ghost use Rattle.job_queue.specs.Hands.{passes_in, new_hand};
-ghost use Rattle.job_queue.specs.Passes.{hand_of, IsJobPassOf};
 
 // What takers saw: how many links, the sum of their places, and whether each came with its place and behind those before.
 #[derive(Drop)]
@@ -23,7 +23,6 @@ fn both(one: Seen, two: Seen) -> Seen {
         in_order: one.in_order && two.in_order,
     }
 }
-
 
 #[tactic(auto, using(crate::proofs::Trials::link_put))]
 fn put_all<R: Wait>(
@@ -43,13 +42,8 @@ fn put_all<R: Wait>(
     pass
 }
 
-
 #[tactic(auto, using(crate::proofs::Trials::passes_stay))]
-fn take_all<R: Wait>(
-    rt: &R,
-    links: &Links<u64>,
-    mut pass: JobPass<u64>,
-) -> (JobPass<u64>, Seen)
+fn take_all<R: Wait>(rt: &R, links: &Links<u64>, mut pass: JobPass<u64>) -> (JobPass<u64>, Seen)
     requires { IsJobPassOf links.now pass }
     ensures { IsJobPassOf links.now result.0 × (passes_in (hand_of result.0) ≡ passes_in (hand_of pass)) }
 {

@@ -141,7 +141,14 @@ impl SetWriter {
         ensures { result ≡ plain_of (array_by self.now) self.now.set kind self.now.records }
     {
         let n = self.geometry.k + self.geometry.p;
-        Marker::plain(kind, self.geometry.k, n, self.set, self.records as u16, self.array)
+        Marker::plain(
+            kind,
+            self.geometry.k,
+            n,
+            self.set,
+            self.records as u16,
+            self.array,
+        )
     }
 
     /// Writes the first records of a set on its members, and makes them firm.
