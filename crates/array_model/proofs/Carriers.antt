@@ -99,7 +99,7 @@ carrier_stays array shape held drives leaving set index carrier e stays =
     ap (carries index) (first_stays shape leaving (λ place. is_of set index (head_at array held place)) drives carrier.place stays is.0) ∙ ap (λ i. Some (record carrier { index = i })) (sym is.1)
 
 -- what is had of each is had of no more than those of which something else is
-length-filter_map : {X Y : Type 0} (f g : X → Option Y) (xs : List X) → ((x : X) → g x ≡ None → f x ≡ None) → length (filter_map f xs) ≤ length (filter_map g xs)
+pub length-filter_map : {X Y : Type 0} (f g : X → Option Y) (xs : List X) → ((x : X) → g x ≡ None → f x ≡ None) → length (filter_map f xs) ≤ length (filter_map g xs)
 length-filter_map f g [] less = omega arith
 length-filter_map {X} {Y} f g (x ∷ xs) less = at_one (g x) (f x) (less x) (length-filter_map f g xs less)
   where
@@ -116,7 +116,7 @@ no_more_carriers array shape held drives leaving set =
 
 -- ---- which drives are present
 
-filter-twice : (p q : ℕ → Bool) (xs : List ℕ) → filter p (filter q xs) ≡ filter (λ x. q x && p x) xs
+pub filter-twice : (p q : ℕ → Bool) (xs : List ℕ) → filter p (filter q xs) ≡ filter (λ x. q x && p x) xs
 filter-twice p q [] = refl
 filter-twice p q (x ∷ xs) = at_one (q x) (filter-twice p q xs)
   where

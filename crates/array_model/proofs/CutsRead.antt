@@ -9,17 +9,15 @@ use Rattle.marker_format.specs.declared.marker.Marker.{Marker}
 use Rattle.marker_format.specs.Kind.{code_of, kind_of}
 use Rattle.marker_format.specs.Marker.{IsMarker, Counts}
 use Rattle.marker_format.specs.Zone.{Array, Stand, blocks_of, may_stand, whole_records}
-use Rattle.array_model.specs.Drives.{Place, bytes_at, records_at, first_of, is_of, places_on}
+use Rattle.array_model.specs.Drives.{Place, bytes_at, records_at, first_of, is_of, present, places_on}
 use Rattle.array_model.specs.Reading.{Carrier, carrier_of, fragments_of, carriers_of, agreed, payload_of, record_by, records_from, read_set, ids_at}
 use Rattle.array_model.specs.Record.{Record, Cut}
 use Rattle.array_model.specs.Sets.{ReadSet, Placed, stands, cut_to, kept_by, placed_from, valid, records_of}
 use Rattle.array_model.specs.SetLaws.{CutsAreOfLower}
-use Rattle.array_model.specs.Possible.{set_by}
-use Rattle.array_model.specs.RemovalLaws.{CutsReadAreOfLower, CutsChosenAreOfLower}
+use Rattle.array_model.specs.RemovalLaws.{CutsReadAreOfLower}
 use Rattle.array_model.proofs.Records.{Among, among_from_contains, among_joined, all_among}
 use Rattle.array_model.proofs.Sets.{cut_records, read_standing, read_fallen}
 use Rattle.array_model.proofs.Agreed.{common_first}
-use Rattle.array_model.proofs.Chosen.{taken_hold, chosen_taken}
 use Rattle.array_model.proofs.SameZones.{all-filter_map, carrier_among}
 use Rattle.array_model.proofs.Settled.{whole_stand}
 use Rattle.array_model.proofs.SettledRecords.{all_front}
@@ -150,18 +148,3 @@ pub cuts_read_are_of_lower : CutsReadAreOfLower
 cuts_read_are_of_lower k array shape held drives =
     let places = places_on shape drives in
     lower_cuts k (map (read_set array held places) (ids_at array held places)) (all_read_lower array held places (ids_at array held places))
-
-pub cuts_chosen_are_of_lower : CutsChosenAreOfLower
-cuts_chosen_are_of_lower k array held places choice is = lower_cuts k (map (set_by array held choice) (ids_at array held places)) (each (ids_at array held places))
-  where
-    one : (set : ℕ) → HasLowerCuts (set_by array held choice set)
-    one set =
-        let chosen = choice set in
-        let those = carriers_of array held places set in
-        records_lower array held chosen set 0 (agreed array held chosen)
-        (agreed_all (IsOfSet set) array held chosen
-        (taken_hold (λ (c : Carrier). AllByRecursion (IsOfSet set) (records_at array held c.place)) chosen those (chosen_taken array.geometry.k chosen those (is set)) (carriers_of_set array held places set)))
-
-    each : (ids : List ℕ) → AllByRecursion HasLowerCuts (map (set_by array held choice) ids)
-    each [] = tt
-    each (id ∷ ids) = (one id, each ids)

@@ -4,11 +4,10 @@ use Rattle.std.specs.Prelude.{not, filter}
 use Rattle.std.specs.List.{AllByRecursion, range_with_len}
 use Rattle.std.proofs.lemmas.Bool.{ne_eqb, or_from}
 use Rattle.zone_bay.specs.Contents.{Shape, Contents}
-use Rattle.array_model.specs.Drives.{drives_of, is_among, is_present, present, places_on, outside}
-use Rattle.array_model.specs.Reading.{carriers_of, ids_at}
-use Rattle.array_model.specs.Possible.{set_by, places_in}
+use Rattle.array_model.specs.Drives.{outside, drives_of, is_among, is_present, present, places_on}
+use Rattle.array_model.specs.Reading.{carriers_of}
 use Rattle.array_model.specs.ReadingLaws.{FlashMayLeave}
-use Rattle.array_model.proofs.Chosen.{taken_length, chosen_taken, needed_is_read}
+use Rattle.array_model.proofs.NeededSets.{ever_needed_has_carriers}
 use Rattle.array_model.proofs.SameZones.{all-map}
 use Rattle.array_model.proofs.Formatted.{all_stay}
 
@@ -35,13 +34,7 @@ drives_stay shape held =
     (λ drive below. ap not (or_from _ _ (ne_eqb last drive (λ e. omega (arith, e, below))) refl))
     (all-filter (λ d. d < last) (is_present shape held []) (drives_of shape) (below_last 0 last last (omega arith))))
 
--- ---- the sets
-
 pub flash_may_leave : FlashMayLeave
-flash_may_leave array shape uploads held set (choice, is, needed) =
-    let k = array.geometry.k in
-    let places = places_in shape held in
-    let those = carriers_of array held places set in
-    let there = needed_is_read (set_by array held choice) (λ id. refl) k uploads (ids_at array held places) set needed in
-    let few = taken_length (choice set) those (chosen_taken k (choice set) those (is set)) in
-    subst (λ (others : List ℕ). k ≤ length (carriers_of array held (places_on shape others) set)) (sym (drives_stay shape held)) (omega (arith, there.1, few))
+flash_may_leave array shape uploads held set ever =
+    subst (λ others. array.geometry.k ≤ length (carriers_of array held (places_on shape others) set)) (sym (drives_stay shape held))
+    (ever_needed_has_carriers array shape uploads held set ever)

@@ -16,12 +16,11 @@ use Rattle.marker_format.specs.Block.{label_block}
 use Rattle.marker_format.specs.Zone.{Array, begun, records_from, foot_follows, has_foot, trailer_follows, whole_records}
 use Rattle.marker_format.proofs.LabelLaws.{label_at-again, length-spelling_of}
 use Rattle.marker_format.proofs.BlockLaws.{has_text}
-use Rattle.array_model.specs.Sets.{valid, placed}
-use Rattle.array_model.specs.Map.{items_of, map_of}
+use Rattle.array_model.specs.Map.{map_of}
 use Rattle.array_model.specs.Drives.{Place, bytes_at, first_of, head_at, is_of, is_among, is_label_of_bay, label_on, drives_of, is_present, present, labels, places_on}
-use Rattle.array_model.specs.Reading.{Carrier, carries, carrier_of, fragments_of, read_set, with_head, ids_at, read_of}
-use Rattle.array_model.specs.Possible.{Choice, set_by, places_in, read_by}
-use Rattle.array_model.specs.Enough.{IsLeftAfter, IsRemains}
+use Rattle.array_model.specs.Reading.{Carrier, carries, carrier_of, fragments_of, with_head, ids_at}
+use Rattle.array_model.specs.Possible.{Choice, set_by, read_by}
+use Rattle.array_model.specs.Enough.{IsLeftAfter}
 use Rattle.array_model.specs.Kept.{HaveOneList, carriers_in, LabelsAreOf, EndsAreFound, TakesFewer, EachZone, IndexesAreAlone, IsKeptReading, ShowsKept, label_of, HasShape, IsFormatted}
 use Rattle.array_model.specs.ReadingLaws.{FormattedIsPresent, FormattedIsKept, FormattedIsEmpty}
 use Rattle.array_model.proofs.Records.{Among, among_from_contains, all_among}
@@ -92,20 +91,6 @@ ends_of_nothing array = record {
 
 -- ---- nothing is read
 
--- Where nothing is read, what is read is kept.
-pub nothing_is_kept : (array : Array) (held : Contents) (choice : Choice) → IsKeptReading array held choice []
-nothing_is_kept array held choice = record {
-  payloads = λ set found. absurd (omega (arith, found.1));
-  closed = λ set found. absurd (omega (arith, found.1));
-  copies = record {
-    notes = λ stamp one other found. absurd (omega (arith, found.1));
-    parts = λ upload part one other found. absurd (omega (arith, found.1));
-  };
-  unsettled = λ one other found. absurd (omega (arith, found.1));
-  ready = λ set cut kept found. absurd (omega (arith, found.1));
-  cuts = λ set kept found. absurd (omega (arith, found.1));
-}
-
 module _ (array : Array) (shape : Shape) (held : Contents) (fits : HasShape array shape) (holds : HoldsLabels array shape held) where
   -- the place holds nothing
   abbrev IsEmpty : Place → Type 0
@@ -126,9 +111,6 @@ module _ (array : Array) (shape : Shape) (held : Contents) (fits : HasShape arra
   no_ids [] empty = refl
   no_ids (place ∷ places) empty = ap₂ with_head (no_head place empty.0) (no_ids places empty.1)
 
-  pub nothing_read : (choice : Choice) → read_by array shape held choice ≡ []
-  nothing_read choice = ap (map (set_by array held choice)) (no_ids (places_in shape held) (all_empty (present shape held [])))
-
   none_found : (set index : ℕ) (places : List Place) → AllByRecursion IsEmpty places → find (λ place. is_of set index (head_at array held place)) places ≡ None
   none_found set index [] empty = refl
   none_found set index (place ∷ places) empty = ap₂ (λ (o : Option _) rest. cond (is_of set index o) (Some place) rest) (no_head place empty.0) (none_found set index places empty.1)
@@ -139,6 +121,12 @@ module _ (array : Array) (shape : Shape) (held : Contents) (fits : HasShape arra
 
   no_carriers : (set : ℕ) → carriers_in array shape held set ≡ []
   no_carriers set = none_of_them (carrier_of array held (places_on shape (present shape held [])) set) (range_with_len 0 (fragments_of array)) (λ index. ap (carries index) (none_found set index (places_on shape (present shape held [])) (all_empty (present shape held []))))
+
+  -- Nothing is read, by any choice.
+  pub nothing_by : (choice : Choice) → read_by array shape held choice ≡ []
+  nothing_by choice =
+      let places = places_on shape (present shape held []) in
+      ap (map (set_by array shape held (present shape held []) choice)) (no_ids places (all_empty (present shape held [])))
 
   -- a new array's geometry is within its limits, so its label's numbers have their widths
   label_is : (device : ℕ) → device < shape.devices → IsLabel (label_of array device)
@@ -215,27 +203,34 @@ module _ (array : Array) (shape : Shape) (held : Contents) (fits : HasShape arra
 
   -- So what it shows is kept.
   pub shows_kept : ShowsKept array shape held
-  shows_kept = record {
-    lists = λ set. subst (HaveOneList array held) (sym (no_carriers set)) ([], tt);
-    readings = λ choice is. subst (IsKeptReading array held choice) (sym (nothing_read choice)) (nothing_is_kept array held choice);
-    labels = labels_are;
-    ends = each_zone (EndsAreFound array) (ends_of_nothing array);
-    blocks = each_zone (TakesFewer array shape.blocks) (λ some. absurd (omega (arith, some, ap length (nothing_whole array))));
-    alone = alone;
-  }
-
--- A device that was lost holds nothing.
-remains_hold_labels : (array : Array) (shape : Shape) (lost : List ℕ) (held left : Contents) → IsFormatted array shape held → IsRemains array shape lost held left → HoldsLabels array shape left
-remains_hold_labels array shape lost held left formatted remains =
-    labels_left array shape remains.0 (without_each lost held) left (labels_without array shape held lost (formatted_labels array shape held formatted)) remains.1
+  shows_kept =
+      let k = array.geometry.k in
+      record {
+        lists = λ set. subst (HaveOneList array held) (sym (no_carriers set)) ([], tt);
+        payloads = λ choice set found. absurd (omega (arith, subst (λ sets. Contains sets set) (nothing_by choice) found));
+        readings = λ choice. subst (IsKeptReading k) (sym (nothing_by choice)) record {
+          closed = λ set found. absurd (omega (arith, found.1));
+          copies = record {
+            notes = λ stamp one other found. absurd (omega (arith, found.1));
+            parts = λ upload part one other found. absurd (omega (arith, found.1));
+          };
+          unsettled = λ one other found. absurd (omega (arith, found.1));
+          ready = λ set cut kept found. absurd (omega (arith, found.1));
+          cuts = λ set kept found. absurd (omega (arith, found.1));
+        };
+        labels = labels_are;
+        ends = each_zone (EndsAreFound array) (ends_of_nothing array);
+        blocks = each_zone (TakesFewer array shape.blocks) (λ some. absurd (omega (arith, some, ap length (nothing_whole array))));
+        alone = alone;
+      }
 
 pub formatted_is_kept : FormattedIsKept
 formatted_is_kept array shape lost held formatted left remains =
-    shows_kept array shape left formatted.fits (remains_hold_labels array shape lost held left formatted remains)
+    shows_kept array shape left formatted.fits (labels_left array shape remains.0 (without_each lost held) left (labels_without array shape held lost (formatted_labels array shape held formatted)) remains.1)
 
 pub formatted_is_empty : FormattedIsEmpty
-formatted_is_empty array shape lost held left objects formatted remains (choice, chosen, is) =
-    is ∙ ap (map_of array.geometry.k) (nothing_read array shape left formatted.fits (remains_hold_labels array shape lost held left formatted remains) choice)
+formatted_is_empty array shape held objects formatted (choice, is) =
+    is ∙ ap (map_of array.geometry.k) (nothing_by array shape held formatted.fits (formatted_labels array shape held formatted) choice)
 
 -- ---- its drives are present
 

@@ -80,7 +80,7 @@ module _ (array : Array) (shape : Shape) (held : Contents) (leaving : List ℕ) 
 
   module _ (alone : IndexesAreAlone array shape held) (set : ℕ) where
     -- The carrier on the drives that stay is the carrier: no other zone takes a place.
-    pub carrier_was : (index : ℕ) (c : Carrier) → carrier_of array held others set index ≡ Some c → carrier_of array held places set index ≡ Some c
+    carrier_was : (index : ℕ) (c : Carrier) → carrier_of array held others set index ≡ Some c → carrier_of array held places set index ≡ Some c
     carrier_was index c e = at_one (carrier_of array held places set index) refl
       where
         at_one : (o : Option Carrier) → carrier_of array held places set index ≡ o → o ≡ Some c

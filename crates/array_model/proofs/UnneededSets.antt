@@ -8,9 +8,9 @@
 -- Of each record that was wanted the first copy was needed, so it is still there. So the newest note of a name stays the
 -- newest: another could only have the same stamp, and then it is an equal note. The first copies of its parts stay the first.
 -- And a snapshot that is complete now was complete, while the newest that was complete still is. So nothing comes to be needed.
-use Rattle.std.proofs.Common.{◌≡◌, ℕ, ◌<◌, ◌≤◌, Bool, true, false, cond, List, [], ◌∷◌, ◌++◌, Option, inl, inr, ⊎_elim, refl, sym, ap, ◌∙◌, subst, subst₂, true≢false, append_assoc, arith}
+use Rattle.std.proofs.Common.{◌≡◌, ℕ, ◌<◌, ◌≤◌, Bool, true, false, List, [], ◌∷◌, ◌++◌, Option, inl, inr, ⊎_elim, refl, sym, ap, ◌∙◌, subst, subst₂, true≢false, append_assoc, arith}
 use Rattle.std.specs.List.{AllZip, AllByRecursion}
-use Rattle.array_model.specs.Sets.{ReadSet, ValidSet, Placed, stands, cut_to, kept_by, placed_from, valid, records_of, least_kept, HasCarrier}
+use Rattle.array_model.specs.Sets.{ReadSet, Placed, stands, cut_to, kept_by, placed_from, valid, records_of, least_kept, HasCarrier}
 use Rattle.array_model.specs.Map.{items_of, value_in}
 use Rattle.array_model.specs.Need.{IsNeeded, IsNeededSet}
 use Rattle.array_model.specs.SetLaws.{LosesCarriers, LosesUnneeded, NotesAreOne, SaysTheSame, AreEnough, UnneededSetsMayGo, LossesFollow, FirstNeedIsEnough, UnneededKeepCuts}
@@ -134,43 +134,6 @@ pub unneeded_keep_cuts : UnneededKeepCuts
 unneeded_keep_cuts k uploads old new some loses target there =
     kept_stays k uploads old new some (all_lose_carriers k old new loses.fewer) loses.enough target there
     ∙ sym (lesser_none (kept_by target (valid k old)))
-
--- A valid set was valid.
-module _ (k : ℕ) (uploads : List ℕ) (all : List ReadSet) (some : 0 < k) where
-  valid_from : (old new : List ReadSet) (before : List Placed) → records_of k all ≡ before ++ records_of k old → ((id : ℕ) → HasCarrier old id → HasCarrier all id) → AllLose k old new → AllByRecursion (λ set. IsNeededSet k uploads all set.id → k ≤ set.carriers) new → (it : ValidSet) → Among it (valid k new) → Among it (valid k old)
-  valid_from [] [] before is there lose enough it found = found
-  valid_from [] (set' ∷ new) before is there lose enough it found = absurd lose
-  valid_from (set ∷ old) [] before is there lose enough it found = absurd lose
-  valid_from (set ∷ old) (set' ∷ new) before is there lose enough it found =
-      at_both (λ ahead is'. valid_from old new ahead is' (λ id has. there id (inr has)) lose.1 enough.1 it) (stands k set) refl (stands k set') refl found
-    where
-      mine : ValidSet
-      mine = record { id = set.id; records = cut_to (kept_by set.id (valid k old)) set.records }
-
-      its : ValidSet
-      its = record { id = set'.id; records = cut_to (kept_by set'.id (valid k new)) set'.records }
-
-      same : stands k set' ≡ true → (ahead : List Placed) → records_of k all ≡ ahead ++ records_of k old → 0 < set.carriers → its ≡ mine
-      same still ahead is' has =
-          let rest = thin k uploads all some old new ahead is' (λ id has. there id (inr has)) lose.1 enough.1 in
-          ap (λ (id : ℕ). record { id = id; records = cut_to (kept_by id (valid k new)) set'.records }) lose.0.id
-          ∙ ap (λ (n : Option ℕ). record { id = set.id; records = cut_to n set'.records }) (kept_the_same k uploads all set.id old new ahead (there set.id (inl (refl, has))) rest)
-          ∙ ap (λ records. record { id = set.id; records = records }) (lose.0.kept still)
-
-      ahead_of : stands k set ≡ true → records_of k all ≡ (before ++ cut_records k set old) ++ records_of k old
-      ahead_of was = is ∙ ap (λ r. before ++ r) (read_standing k set old was) ∙ sym (append_assoc before (cut_records k set old) (records_of k old))
-
-      at_both : ((ahead : List Placed) → records_of k all ≡ ahead ++ records_of k old → Among it (valid k new) → Among it (valid k old)) → (b : Bool) → stands k set ≡ b → (b' : Bool) → stands k set' ≡ b' → Among it (cond b' (its ∷ valid k new) (valid k new)) → Among it (cond b (mine ∷ valid k old) (valid k old))
-      at_both later true was true still (inl here) =
-          let many = standing_carriers k set was in
-          inl (sym (same still (before ++ cut_records k set old) (ahead_of was) (omega (arith, some, many))) ∙ here)
-      at_both later true was true still (inr found) = inr (later (before ++ cut_records k set old) (ahead_of was) found)
-      at_both later true was false falls found = inr (later (before ++ cut_records k set old) (ahead_of was) found)
-      at_both later false fell true still found = absurd (true≢false (sym (lose.0.stood still) ∙ fell))
-      at_both later false fell false falls found = later before (is ∙ ap (λ r. before ++ r) (read_fallen k set old fell)) found
-
-pub valid_was : (k : ℕ) (uploads : List ℕ) (old new : List ReadSet) → 0 < k → AllLose k old new → AreEnough k uploads old new → (it : ValidSet) → Among it (valid k new) → Among it (valid k old)
-valid_was k uploads old new some lose enough it found = valid_from k uploads old some old new [] refl (λ id has. has) lose enough it found
 
 module _ (k : ℕ) (uploads : List ℕ) (old new : List ReadSet) (some : 0 < k) (notes : NotesAreOne k old) (lose : AllLose k old new) (enough : AreEnough k uploads old new) where
   whole : Thin k uploads old [] (records_of k old) (records_of k new)

@@ -33,7 +33,7 @@ drives_of shape = range_with_len 0 (shape.devices - 1)
 abbrev pub is_among : List ℕ → ℕ → Bool
 is_among devices device = list_any (λ d. d == device) devices
 
--- the drives that don't leave
+-- the drives that are none of these
 abbrev pub outside : List ℕ → List ℕ → List ℕ
 outside leaving drives = filter (λ drive. not (is_among leaving drive)) drives
 

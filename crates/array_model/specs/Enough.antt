@@ -14,8 +14,7 @@ use Rattle.array_model.specs.Possible.{IsEverNeeded}
 abbrev pub is_settled : ℕ → List ReadSet → ReadSet → Bool
 is_settled k sets set = stands k set && (is_some (kept_by set.id (valid k sets)) || set.closed)
 
--- Enough carriers stay where drives leave: each set that is ever needed keeps k. The uploads are those in progress and those
--- that are read.
+-- Enough carriers stay where drives leave: each set that is ever needed keeps k.
 abbrev pub IsEnough : Array → Shape → List ℕ → Contents → List ℕ → Type 0
 IsEnough array shape uploads held leaving =
     let others = places_on shape (outside leaving (present shape held [])) in
@@ -27,6 +26,6 @@ abbrev pub IsLeftAfter : Array → Shape → List (List ℕ) → Contents → Co
 IsLeftAfter array shape [] held left = left ≡ held
 IsLeftAfter array shape (leaving ∷ more) held left = IsEnough array shape [] held leaving × IsLeftAfter array shape more (without_each leaving held) left
 
--- What remains of an image: first without the devices that were lost by its instant, and then after any such removals.
+-- What remains of an image: what it holds without the devices that were lost by its instant, after any such removals.
 abbrev pub IsRemains : Array → Shape → List ℕ → Contents → Contents → Type 0
 IsRemains array shape lost image left = (removals : List (List ℕ)) × IsLeftAfter array shape removals (without_each lost image) left

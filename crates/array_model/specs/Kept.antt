@@ -13,12 +13,12 @@ use Rattle.marker_format.specs.Marker.{IsMarker}
 use Rattle.marker_format.specs.Block.{label_block, foot_block, marker_block}
 use Rattle.marker_format.specs.Zone.{Array, block_at, end_from, has_kind, begun, foot_follows, has_foot, trailer_follows, whole_records}
 use Rattle.array_model.specs.Payload.{AreFragments, fragment_of}
-use Rattle.array_model.specs.Drives.{Place, is_of, labels, bytes_at, records_at, head_at}
+use Rattle.array_model.specs.Drives.{Place, is_of, present, labels, places_on, bytes_at, records_at, head_at}
 use Rattle.array_model.specs.Reading.{Carrier, fragments_of, carriers_of, IsPrefixAlike, agreed, fragment_on}
 use Rattle.array_model.specs.Record.{Record, Part, Put, Delete, Cut, is_ready}
-use Rattle.array_model.specs.Sets.{ReadSet, ValidSet, Placed, stands, valid, kept_by, records_of}
+use Rattle.array_model.specs.Sets.{ReadSet, Placed, stands, cut_to, valid, kept_by, records_of}
 use Rattle.array_model.specs.Map.{items_of}
-use Rattle.array_model.specs.Possible.{Choice, IsChoice, places_in, read_by}
+use Rattle.array_model.specs.Possible.{Choice, chosen, read_by}
 use Rattle.array_model.specs.Enough.{is_settled, IsRemains}
 
 -- ---- carriers of a set
@@ -43,13 +43,25 @@ HavePayloads array held carriers count =
 
 -- the carriers of a set on the drives that are present
 abbrev pub carriers_in : Array → Shape → Contents → ℕ → List Carrier
-carriers_in array shape held set = carriers_of array held (places_in shape held) set
+carriers_in array shape held set = carriers_of array held (places_on shape (present shape held [])) set
+
+-- the carriers from which a set is read by this choice
+abbrev pub carriers_by : Array → Shape → Contents → Choice → ℕ → List Carrier
+carriers_by array shape held choice set = carriers_of array held (places_on shape (chosen array shape held (present shape held []) (choice set) set)) set
+
+-- The fragments of each valid record, on the carriers from which its set is read, are those of one payload.
+abbrev pub HaveValidPayloads : Array → Shape → Contents → Choice → Type 0
+HaveValidPayloads array shape held choice =
+    let k = array.geometry.k in
+    let sets = read_by array shape held choice in
+    (set : ReadSet) → Contains sets set → stands k set ≡ true
+    → HavePayloads array held (carriers_by array shape held choice set.id) (length (cut_to (kept_by set.id (valid k sets)) set.records))
 
 -- No two drives have a zone with a whole head of one index of a set. (Else, where the drive of the carrier leaves, the other
 -- zone takes its place, with records that need not be those that were read.)
 abbrev pub IndexesAreAlone : Array → Shape → Contents → Type 0
 IndexesAreAlone array shape held =
-    let places = places_in shape held in
+    let places = places_on shape (present shape held []) in
     (set index : ℕ) (one other : Place) → Contains places one → Contains places other
     → is_of set index (head_at array held one) ≡ true → is_of set index (head_at array held other) ≡ true → one.device ≡ other.device
 
@@ -91,27 +103,18 @@ abbrev pub CutsFit : ℕ → List ReadSet → Type 0
 CutsFit k sets =
     (set : ReadSet) (kept : ℕ) → Contains sets set → stands k set ≡ true → kept_by set.id (valid k sets) ≡ Some kept → kept ≤ length set.records
 
--- ---- possible readings
-
--- What a possible reading of a kept array shows: what is read of its sets by a choice.
-pub record IsKeptReading (array : Array) (held : Contents) (choice : Choice) (sets : List ReadSet) : Type 0 where
-  -- The chosen carriers' fragments of each valid record are those of one payload.
-  pub payloads : (set : ValidSet) → Contains (valid array.geometry.k sets) set → HavePayloads array held (choice set.id) (length set.records)
+-- A list of sets that may be read of a kept array.
+pub record IsKeptReading (k : ℕ) (sets : List ReadSet) : Type 0 where
   -- A set with enough carriers that are all closed stands.
-  pub closed : ClosedStand array.geometry.k sets
+  pub closed : ClosedStand k sets
   -- Valid notes with one stamp are copies, and valid parts with one upload and number are.
-  pub copies : AreCopies (items_of (records_of array.geometry.k sets))
+  pub copies : AreCopies (items_of (records_of k sets))
   -- At most one set that stands is unsettled.
-  pub unsettled : OneIsUnsettled array.geometry.k sets
+  pub unsettled : OneIsUnsettled k sets
   -- A cut that keeps anything of a set keeps its ready record,
-  pub ready : CutsKeepReady array.geometry.k sets
+  pub ready : CutsKeepReady k sets
   -- and no more records than there are.
-  pub cuts : CutsFit array.geometry.k sets
-
--- In each possible reading notes with one stamp are copies, and parts with one upload and number are.
-abbrev pub AreEverCopies : Array → Shape → Contents → Type 0
-AreEverCopies array shape held =
-    (choice : Choice) → IsChoice array held (places_in shape held) choice → AreCopies (items_of (records_of array.geometry.k (read_by array shape held choice)))
+  pub cuts : CutsFit k sets
 
 -- ---- labels and zones
 
@@ -159,16 +162,18 @@ TakesFewer array blocks bytes =
 
 -- Each set zone of the drives that are present is so.
 abbrev pub EachZone : Shape → Contents → (List ℕ → Type 0) → Type 0
-EachZone shape held P = AllByRecursion (λ place. P (bytes_at held place)) (places_in shape held)
+EachZone shape held P = AllByRecursion (λ place. P (bytes_at held place)) (places_on shape (present shape held []))
 
 -- ---- the kept array
 
--- What an image shows of a kept array.
+-- What is seen of a kept array.
 pub record ShowsKept (array : Array) (shape : Shape) (held : Contents) : Type 0 where
-  -- The whole records of a set's carriers are prefixes of one list.
+  -- The carriers of a set have one list of records.
   pub lists : (set : ℕ) → HaveOneList array held (carriers_in array shape held set)
-  -- Each possible reading shows so.
-  pub readings : (choice : Choice) → IsChoice array held (places_in shape held) choice → IsKeptReading array held choice (read_by array shape held choice)
+  -- In each possible reading they have fragments of the same payloads,
+  pub payloads : (choice : Choice) → HaveValidPayloads array shape held choice
+  -- and its sets are those of a kept array.
+  pub readings : (choice : Choice) → IsKeptReading array.geometry.k (read_by array shape held choice)
   -- All labels of drives name this array and its geometry.
   pub labels : LabelsAreOf array (labels shape held [])
   -- Trailers and feet stand at the ends of their zones, and nothing else is spelled like one there.
@@ -178,7 +183,7 @@ pub record ShowsKept (array : Array) (shape : Shape) (held : Contents) : Type 0 
   -- An index of a set has zones on one drive.
   pub alone : IndexesAreAlone array shape held
 
--- An array is kept where all that remains of it shows so.
+-- An image, by whose instant these devices were lost, is kept where all that remains of it shows so.
 abbrev pub IsKept : Array → Shape → List ℕ → Contents → Type 0
 IsKept array shape lost image = (left : Contents) → IsRemains array shape lost image left → ShowsKept array shape left
 

@@ -15,7 +15,7 @@ use Rattle.array_model.specs.Reading.{Carrier, carrier_of, fragments_of, carrier
 use Rattle.array_model.specs.Record.{is_ready}
 use Rattle.array_model.specs.Sets.{AreRising, stands, records_of}
 use Rattle.array_model.specs.Possible.{IsPossibleMap}
-use Rattle.array_model.specs.Enough.{IsEnough, IsRemains}
+use Rattle.array_model.specs.Enough.{IsEnough}
 use Rattle.array_model.specs.Kept.{HaveOneList, HaveOnePayload, HavePayloads, IsKept, IsFormatted}
 use Rattle.smore_base.specs.Objects.{Map}
 use Rattle.std.specs.FinMap as finmap
@@ -199,7 +199,7 @@ FormattedIsPresent = (array : Array) (shape : Shape) (held : Contents) → IsFor
 abbrev pub FormattedIsKept : Type 0
 FormattedIsKept = (array : Array) (shape : Shape) (lost : List ℕ) (held : Contents) → IsFormatted array shape held → IsKept array shape lost held
 
--- and the one possible map of all that remains of it is the empty one.
+-- and its one possible map is the empty one.
 abbrev pub FormattedIsEmpty : Type 0
-FormattedIsEmpty = (array : Array) (shape : Shape) (lost : List ℕ) (held left : Contents) (objects : Map) → IsFormatted array shape held
-    → IsRemains array shape lost held left → IsPossibleMap array shape left objects → objects ≡ finmap.empty
+FormattedIsEmpty = (array : Array) (shape : Shape) (held : Contents) (objects : Map) → IsFormatted array shape held
+    → IsPossibleMap array shape held objects → objects ≡ finmap.empty

@@ -4,6 +4,7 @@
 
 mod laws;
 mod need_laws;
+mod property;
 mod reading_laws;
 mod removal_laws;
 
@@ -13,6 +14,7 @@ pub use laws::{
     records_without_note, unneeded_sets_may_go,
 };
 pub use need_laws::{blocks_are_counted, shelf_has_all, tests_tell_need, victims_are_least};
+pub use property::Property;
 pub use reading_laws::{
     agreed_is_longest, agreed_list_stays, carriers_are_lowest, carriers_stay,
     fallen_sets_say_nothing, flash_may_leave, formatted_arrays_are_kept, markers_agree,
@@ -20,6 +22,6 @@ pub use reading_laws::{
     what_stays_is_read,
 };
 pub use removal_laws::{
-    cuts_are_of_lower, few_missing_are_enough, nothing_new_is_possible, remains_have_possible_maps,
-    removals_follow, what_shows_is_kept,
+    all_removals_keep, cuts_are_of_lower, few_missing_are_enough, nothing_new_is_possible,
+    one_possible_map, remains_have_possible_maps, removals_follow, what_shows_is_kept,
 };
