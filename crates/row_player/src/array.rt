@@ -2,8 +2,8 @@
 
 use crate::fault::Fault;
 use bay_memory::{Keep, MemoryBay};
+use marker_format::{LABEL_VERSION, Label, write_label_block};
 use smore_base::{BLOCK_BYTES, Geometry};
-use smore_top::Core;
 use std::alloc::Global;
 use zone_bay::Bay;
 
@@ -23,16 +23,31 @@ pub fn image_of(
     Ok(MemoryBay::from_image(alloc, bay.crash(keep, removed)?))
 }
 
-/// A fresh formatted array. Its calls are counted from 0.
+/// A fresh formatted array: a label on each device. Its calls are counted from 0.
 pub fn formatted(alloc: Global, geometry: &Geometry) -> Result<MemoryBay, Fault> {
     if geometry.check().is_err() {
         return Err(Fault::wanted(alloc, "a geometry within the limits"));
     }
     let mut bay = MemoryBay::new(alloc, geometry.drives + 1, geometry.zones, geometry.blocks)?;
-    if Core::format(&mut bay, geometry, ARRAY).is_err() {
-        return Err(Fault::Memory);
+    for device in 0..bay.devices() {
+        if !put_label(&mut bay, geometry, device) {
+            return Err(Fault::Memory);
+        }
     }
     image_of(alloc, &bay, Keep::All, &[])
+}
+
+/// Puts the label of a device. `false` where there is no room for it, or where the device fails.
+fn put_label(bay: &mut MemoryBay, geometry: &Geometry, device: u8) -> bool {
+    let label = Label {
+        version: LABEL_VERSION,
+        device,
+        geometry: *geometry,
+        array: ARRAY,
+    };
+    let mut block = [0; BLOCK];
+    write_label_block(&label, &mut block);
+    append_block(bay, device, 0, &block)
 }
 
 /// The bytes of a zone; of a zone that isn't there none.

@@ -304,32 +304,26 @@ impl SetLog {
         Ok(())
     }
 
-    /// The set of this number, where it was written.
-    fn find(&mut self, set: u64) -> Option<&mut WrittenSet> {
-        for other in self.sets.iter_mut() {
-            if other.set == set {
-                return Some(other);
-            }
-        }
-        None
-    }
-
     /// A record is put.
     pub(crate) fn put(&mut self, marker: &Marker, reach: Reach) -> Result<(), AllocError> {
         let step = self.marks.len();
-        match self.find(marker.set) {
-            Some(set) => set.put(marker, step, reach),
-            None => Ok(()),
+        for other in self.sets.iter_mut() {
+            if other.set == marker.set {
+                return other.put(marker, step, reach);
+            }
         }
+        Ok(())
     }
 
     /// All records of the set are made firm.
     pub(crate) fn flushed(&mut self, set: u64, reach: Reach) -> Result<(), AllocError> {
         let step = self.marks.len();
-        match self.find(set) {
-            Some(set) => set.flushed(step, reach),
-            None => Ok(()),
+        for other in self.sets.iter_mut() {
+            if other.set == set {
+                return other.flushed(step, reach);
+            }
         }
+        Ok(())
     }
 
     /// The set is closed, by a digest behind its records.
@@ -337,10 +331,12 @@ impl SetLog {
         let step = self.marks.len();
         let alloc = self.alloc;
         let geometry = self.geometry;
-        match self.find(set) {
-            Some(set) => set.closed(alloc, &geometry, step, reach),
-            None => Ok(()),
+        for other in self.sets.iter_mut() {
+            if other.set == set {
+                return other.closed(alloc, &geometry, step, reach);
+            }
         }
+        Ok(())
     }
 
     /// A crash left what was firm, or all. The steps so far came before it.
