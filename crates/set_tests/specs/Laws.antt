@@ -8,6 +8,7 @@ use Rattle.set_writer.specs.Entry.{Entry}
 use Rattle.set_writer.specs.Writer.{Writer, array_by, blocks_in, Fits}
 use Rattle.set_writer.specs.Laws.{records_of}
 use Rattle.set_table.specs.Table.{array_of}
+use Rattle.set_reader.specs.Calls.{OnlyLoses}
 use Rattle.set_reader.specs.Record.{StandsAt, Appends}
 
 -- the place of a record of the set that stands behind these

@@ -1,4 +1,4 @@
-use Rattle.std.proofs.Common.{inl, inr, ap, subst, ◌∙◌}
+use Rattle.std.proofs.Common.{inl, inr, ap, sym, subst, ◌∙◌}
 use Rattle.bay_files.specs.Counts.{shape_in}
 use Rattle.smore_base.specs.Geometry.{first_fault}
 use Rattle.smore_top.specs.Words.{Spell, RefusedFor}
@@ -28,7 +28,7 @@ returns g c = elim c.match-command-2.branch [
         shape = λ shape is. inr (
           record { geometry = w.in-Format.geometry; id = w.in-Format.array },
           record { folder = _; spelled = spelled.0; no_option = spelled.1; id = spelled.2; geometry = spelled.3 },
-          record { devices = ap (λ s. s.devices) shape_is; zones = ap (λ s. s.zones) shape_is; blocks = ap (λ s. s.blocks) shape_is },
+          record { devices = sym (ap (λ s. s.devices) shape_is); zones = sym (ap (λ s. s.zones) shape_is); blocks = sym (ap (λ s. s.blocks) shape_is) },
         );
       }
   | in-Batch w ↦
