@@ -1,7 +1,7 @@
 -- Facts of lists of jobs.
-use Rattle.std.proofs.Common.{◌≡◌, ◌≢◌, ℕ, zero, suc, ◌+◌, ◌<◌, ◌≤◌, ◌⊎◌, List, [], ◌∷◌, ◌++◌, Option, Some, None, length, set, sym, refl, ap, ◌∙◌, subst, inl, inr, ⊎_elim, append_assoc, arith, length-append}
+use Rattle.std.proofs.Common.{◌≡◌, ℕ, zero, suc, ◌+◌, ◌<◌, ◌≤◌, ◌⊎◌, List, [], ◌∷◌, ◌++◌, Option, Some, None, length, set, sym, refl, ap, ◌∙◌, inl, inr, ⊎_elim, arith}
 use Rattle.std.specs.List.{sum_by}
-use Rattle.std.proofs.lemmas.List.Sums.{sum_by-cons, sum_by-append, sum_by_push}
+use Rattle.std.proofs.lemmas.List.Sums.{sum_by-cons, sum_by_push}
 use mathlib.Core.Option.{some, some-injective, some-ne-none}
 use lib.ListN.{get_elem?}
 use Rattle.job_queue.specs.Lists.{links_of, marks_of, MarksBehind, MayPut, InOrder, EachInOrder, weight, add_own}
@@ -21,9 +21,12 @@ module _ {X : Type 0} where
   in_order-push (z ∷ zs) [] x h = absurd h
   in_order-push (z ∷ zs) (y ∷ ys) x h = ⊎_elim (λ (p : (z ≡ y) × InOrder zs ys). inl (p.0, in_order-push zs ys x p.1)) (λ (q : InOrder (z ∷ zs) ys). inr (in_order-push (z ∷ zs) ys x q)) h
 
+  pub each_in_order-before : (xss : List (List X)) (ys zs : List X) → EachInOrder xss ys → EachInOrder xss (ys ++ zs)
+  each_in_order-before [] ys zs h = tt
+  each_in_order-before (xs ∷ xss) ys zs h = (in_order-append xs ys zs h.0, each_in_order-before xss ys zs h.1)
+
   pub each_in_order-push : (xss : List (List X)) (ys : List X) (x : X) → EachInOrder xss ys → EachInOrder xss (ys ++ x ∷ [])
-  each_in_order-push [] ys x h = tt
-  each_in_order-push (xs ∷ xss) ys x h = (in_order-append xs ys (x ∷ []) h.0, each_in_order-push xss ys x h.1)
+  each_in_order-push xss ys x h = each_in_order-before xss ys (x ∷ []) h
 
   pub each_in_order-own : (xss : List (List X)) (ys : List X) (x : X) → EachInOrder xss ys → EachInOrder (add_own x xss) (ys ++ x ∷ [])
   each_in_order-own [] ys x h = tt

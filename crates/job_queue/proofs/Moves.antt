@@ -1,5 +1,5 @@
 -- Each move keeps the rule of the queue.
-use Rattle.std.proofs.Common.{◌≡◌, ◌≢◌, ℕ, zero, suc, ◌+◌, ◌<◌, ◌^◌, ◌==◌, Bool, true, false, true≢false, cond, ◌||◌, List, [], ◌∷◌, ◌++◌, Option, Some, None, length, set, sym, refl, ap, ◌∙◌, subst, inl, inr, ⊎_elim, append_assoc, arith, length-append}
+use Rattle.std.proofs.Common.{◌≡◌, ◌≢◌, ℕ, zero, suc, ◌+◌, ◌<◌, ◌^◌, ◌==◌, Bool, true, false, true≢false, cond, ◌||◌, List, [], ◌∷◌, ◌++◌, Option, length, set, sym, refl, ap, ◌∙◌, subst, ⊎_elim, append_assoc, arith, length-append}
 use Rattle.std.specs.List.{sum_by}
 use Rattle.std.proofs.lemmas.List.Sums.{sum_by-append, sum_by_push}
 use mathlib.Core.Option.{some, some-injective, some-ne-none}
@@ -7,11 +7,11 @@ use lib.ListN.{get_elem?}
 use Rattle.crossbeam_queue.specs.Fifo.{Pushes, Pops, Forks, Merges, Learns}
 use Rattle.crossbeam_queue.proofs.Lists.{at_set}
 use Rattle.job_queue.specs.declared.hand.Hand.{Hand}
-use Rattle.job_queue.specs.Lists.{MarksBehind, MayPut, EachInOrder, weight, add_own}
+use Rattle.job_queue.specs.Lists.{MarksBehind, MayPut, EachInOrder, weight}
 use Rattle.job_queue.specs.Hands.{owner_hand, new_hand, spent_hand, makes, puts, takes, joined}
 use Rattle.job_queue.specs.Rule.{State, Fits, Kept, one_if}
-use Rattle.job_queue.specs.Ends.{KnowsAll}
-use Rattle.job_queue.proofs.Lists.{each_in_order-push, each_in_order-own, each_in_order-append, weight-own, length-own, marks_behind-push, total-set, total-at, total-none, total-alone, at_push}
+use Rattle.job_queue.specs.Ends.{KnowsAll, KnowsOrder}
+use Rattle.job_queue.proofs.Lists.{each_in_order-push, each_in_order-own, each_in_order-append, each_in_order-before, weight-own, length-own, marks_behind-push, total-set, total-at, total-none, total-alone, at_push}
 
 merge_owner : (a b : Bool) (seat other own made m n : ℕ) → other ≢ seat → (a ≡ true → (seat ≡ own) × (m ≡ made)) → (a ≡ false → m ≡ 0) → (b ≡ true → (other ≡ own) × (n ≡ made)) → (b ≡ false → n ≡ 0) → (a || b) ≡ true
     → (seat ≡ cond b seat own) × (m + n ≡ made)
@@ -333,3 +333,9 @@ module _ {L : Type 0} where
         few = k.few;
         behind = subst MarksBehind (sym put) k.behind;
       }
+
+  pub learns_order : (seat : ℕ) (v : Hand L) → Learns Kept seat v (λ items. KnowsOrder v)
+  learns_order seat v items views k at first =
+      let s = k.state in
+      let mine = k.each seat v at in
+      subst (EachInOrder v.taken) (sym ((mine.first first).1 ∙ k.whole)) (each_in_order-before v.taken s.gone items mine.order)

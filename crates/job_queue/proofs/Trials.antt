@@ -1,6 +1,6 @@
 -- What callers of the queue go by.
-use Rattle.std.proofs.Common.{◌≡◌, ℕ, ◌+◌, List, [], ◌∷◌, ◌++◌, Option, Some, None, length, refl, arith, ap, ◌∙◌}
-use Rattle.job_queue.specs.Lists.{marks_of, add_own}
+use Rattle.std.proofs.Common.{◌≡◌, ℕ, ◌+◌, List, [], ◌∷◌, ◌++◌, Option, Some, None, refl, ap, ◌∙◌}
+use Rattle.job_queue.specs.Lists.{marks_of}
 use Rattle.job_queue.specs.Hands.{passes_in, takes, puts}
 use Rattle.job_queue.specs.declared.hand.Hand.{Hand}
 use Rattle.job_queue.proofs.Lists.{length-own}

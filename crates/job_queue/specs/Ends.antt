@@ -1,10 +1,14 @@
--- What is known once all passes are joined into one.
-use Rattle.std.specs.Prelude.{◌≡◌, ℕ, ◌<◌, ◌^◌, List, [], ◌++◌, Option, length}
+-- What is known of what was put and taken, once passes are joined into one.
+use Rattle.std.specs.Prelude.{◌≡◌, ℕ, ◌<◌, ◌^◌, true, List, ◌++◌, Option, length}
 use Rattle.job_queue.specs.declared.hand.Hand.{Hand}
 use Rattle.job_queue.specs.Lists.{links_of, MarksBehind, EachInOrder, EachOnce}
 use Rattle.job_queue.specs.Hands.{marks_taken}
 
 module _ {L : Type 0} where
+  -- each of the passes in it took what was put in that order, once the first one is among them
+  abbrev pub KnowsOrder : Hand L → Type 0
+  KnowsOrder v = v.first ≡ true → EachInOrder v.taken v.put
+
   -- of what was put, some was taken, and then the rest is left
   pub record Parted (v : Hand L) (gone rest : List (Option (ℕ × L))) : Type 0 where
     -- what was put is what was taken and, behind it, what is left

@@ -1,5 +1,5 @@
 -- What a pass knows, and what each call makes of it.
-use Rattle.std.specs.Prelude.{◌≡◌, ℕ, ◌+◌, Bool, true, false, ◌||◌, List, [], ◌∷◌, ◌++◌, Option, Some, None, length, replicate}
+use Rattle.std.specs.Prelude.{◌≡◌, ℕ, ◌+◌, Bool, true, false, ◌||◌, [], ◌∷◌, ◌++◌, Option, None, length, replicate}
 use Rattle.std.specs.List.{sum_by}
 use Rattle.job_queue.specs.declared.hand.Hand.{Hand}
 use Rattle.job_queue.specs.Lists.{links_of, marks_of, add_own}

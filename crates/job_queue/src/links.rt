@@ -3,10 +3,11 @@ ghost use Rattle.std.specs.Prelude.{◌≡◌, ◌<◌, true, Some, length};
 ghost use Rattle.crossbeam_queue.specs.Passes.{view, IsPassOf};
 ghost use Rattle.job_queue.specs.Hands.{puts, closes, takes, joined};
 ghost use Rattle.job_queue.specs.Lists.{marks_of, MayPut};
+ghost use Rattle.job_queue.specs.Ends.{KnowsOrder};
 
 use crate::hand::{Hand, Job};
 use crate::pass::JobPass;
-use crate::rule::{Joined, Line, Put, Taken};
+use crate::rule::{InOrder, Joined, Line, Put, Taken};
 use crossbeam_queue::Pass;
 use std::sync::Wait;
 use std::thread;
@@ -64,9 +65,11 @@ impl<L> Links<L> {
         requires other { IsJobPassOf self.now other }
         ensures queue { IsJobPassOf self.now pass.new }
         ensures both { hand_of pass.new ≡ joined (hand_of pass.old) (hand_of other) }
+        ensures order { KnowsOrder (hand_of pass.new) }
     {
         pass.ahead = pass.ahead.wrapping_add(other.ahead);
         self.queue.absorb::<Joined>(&mut pass.pass, other.pass);
+        self.queue.learn_as::<InOrder>(&mut pass.pass);
     }
 
     // Puts a job once there is room.

@@ -2,7 +2,7 @@
 ghost use Rattle.std.specs.Prelude.{◌≡◌, ◌==◌, ◌∷◌, [], true, false, Some, None};
 ghost use Rattle.job_queue.specs.Hands.{owner_hand, spent_hand, new_hand, makes, puts, takes, joined};
 ghost use Rattle.job_queue.specs.Rule.{Kept};
-ghost use Rattle.job_queue.specs.Ends.{KnowsAll};
+ghost use Rattle.job_queue.specs.Ends.{KnowsAll, KnowsOrder};
 
 use crate::hand::{Hand, Job};
 use crossbeam_queue::RuledArrayQueue;
@@ -64,4 +64,11 @@ pub(crate) struct All;
 
 impl<L> Lesson<Option<(u64, L)>, Hand<L>> for All {
     ghost fact = { KnowsAll };
+}
+
+/// What a pass learns in which the first one is.
+pub(crate) struct InOrder;
+
+impl<L> Lesson<Option<(u64, L)>, Hand<L>> for InOrder {
+    ghost fact = { λ v items. KnowsOrder v };
 }

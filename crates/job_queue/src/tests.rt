@@ -173,3 +173,21 @@ fn links_that_no_pass_took_are_left(rt: HostRuntime) -> Result<(), Fail> {
     assert_eq!(rt; jobs.end_jobs(pass), 2);
     Ok(())
 }
+
+#[test]
+fn a_taker_puts_once_the_first_pass_is_in_it(rt: HostRuntime) -> Result<(), Fail> {
+    let mut jobs = Jobs::new(rt.alloc(), 4)?;
+    let mut first = jobs.pass();
+    let mut taker = jobs.pass();
+    let links = jobs.links();
+    links.put_link(&rt, &mut first, 1, 'a');
+    links.close_jobs(&rt, &mut first, 0);
+    links.join_jobs(&mut taker, first);
+    links.put_link(&rt, &mut taker, 2, 'b');
+    links.close_jobs(&rt, &mut taker, 2);
+    assert_eq!(rt; links.take_link(&rt, &mut taker), Some((1, 'a')));
+    assert_eq!(rt; links.take_link(&rt, &mut taker), Some((2, 'b')));
+    assert_eq!(rt; links.take_link(&rt, &mut taker), None);
+    assert_eq!(rt; jobs.end_jobs(taker), 0);
+    Ok(())
+}

@@ -1,4 +1,4 @@
-use Rattle.std.proofs.Common.{ap, arith, rules}
+use Rattle.std.proofs.Common.{arith}
 use Rattle.job_queue.proofs.Moves.{merges, learns}
 use Rattle.job_queue.proofs.Counts.{all_in, ending}
 use Rattle.job_queue.proofs.jobs.Jobs.end_jobs.Goals as goal

@@ -1,4 +1,4 @@
-use Rattle.std.proofs.Common.{arith, sym, subst, ap, ◌∙◌, ◌≡◌, ◌<◌, length}
+use Rattle.std.proofs.Common.{sym, subst, ◌<◌, length}
 use Rattle.job_queue.proofs.Moves.{pops}
 use Rattle.job_queue.proofs.links.Links.take.Goals as goal
 
