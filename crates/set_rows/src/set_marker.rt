@@ -27,23 +27,8 @@ pub(crate) struct Upload {
 fn plain(geometry: &Geometry, kind: Kind, set: u64, position: u16) -> Marker
     ensures { Widths result }
 {
-    Marker {
-        kind: kind.number(),
-        index: 0,
-        k: geometry.k,
-        n: geometry.k.saturating_add(geometry.p),
-        set,
-        position,
-        fragment: 0,
-        stamp: 0,
-        upload: 0,
-        part: 0,
-        parts: 0,
-        length: 0,
-        payload: 0,
-        array: ARRAY,
-        name: None,
-    }
+    let n = geometry.k.saturating_add(geometry.p);
+    Marker::plain(kind, geometry.k, n, set, position, ARRAY)
 }
 
 /// The bytes of each fragment of so many.
